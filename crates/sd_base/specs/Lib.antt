@@ -1,3 +1,11 @@
 pub mod Padded
 pub mod PaddedLaws
 pub mod Text
+pub mod Selection
+pub mod Numbers
+pub mod History
+pub mod Blocks
+pub mod Allowed
+pub mod Sound
+pub mod Part
+pub mod Laws

@@ -1,0 +1,108 @@
+-- What is live after a lawful history is sound, and stays so where an owner's newest entry is taken away.
+use Rattle.std.proofs.Common.{◌≡◌, ℕ, ◌≤◌, Bool, true, false, cond, eqb, List, [], ◌∷◌, None, refl, ap, ◌∙◌, arith}
+use Rattle.std.proofs.lemmas.Bool.Decides.{nat_tests}
+use Rattle.std.specs.List.{list_any, find, count_by}
+use Rattle.sd_base.specs.declared.history.Update.{Update}
+use Rattle.sd_base.specs.declared.history.Update.TheVariants.{Grant, Free, Line, Ports, Device, Param, Timer, Lock, Hold, Work, Taken, Mask, Clock}
+use Rattle.sd_base.specs.Selection.{without_first, without_last}
+use Rattle.sd_base.specs.History.{Entry, History, OfBlocks, OfFrees, Key, same_resource, live_key, key_of, entry, is_owner, is_of, after_entry, live_of, clock_of}
+use Rattle.sd_base.specs.Blocks.{Block, blocks_after, has_base, granted}
+use Rattle.sd_base.specs.Allowed.{is_lock, free_refusal, refusal_on, IsLawful, is_astray}
+use Rattle.sd_base.specs.Sound.{FreeAllowed, FreesAllowed, IsSound}
+use Rattle.sd_base.proofs.Removal.{list_any-without_first, count_by-without_first}
+use Rattle.sd_base.proofs.Live.{apart-same, is_of-resource}
+use Rattle.sd_base.proofs.Granted.{granted-without_first_other, granted-without_last_other, leaves}
+use Rattle.sd_base.proofs.Range.{none_astray}
+use Rattle.sd_base.proofs.Single.{one_each, one_holder}
+
+-- an entry under a key that is neither a block's nor a release's leaves the blocks
+leaves_key : (o : ℕ) (k : Key) → same_resource k.resource OfBlocks ≡ false → same_resource k.resource OfFrees ≡ false → (e : Entry) → is_of o k e ≡ true →
+    (bs : List Block) → blocks_after e.update bs ≡ bs
+leaves_key o k blocks frees e h bs =
+    leaves e.update bs (apart-same (live_key e.update).resource k.resource OfBlocks (is_of-resource o k e h) blocks)
+    (apart-same (live_key e.update).resource k.resource OfFrees (is_of-resource o k e h) frees)
+
+-- whether a release is allowed rests on the owner's blocks alone
+same_blocks : (owner : ℕ) (u : Update) (xs ys : List Entry) → granted xs owner ≡ granted ys owner → FreeAllowed owner u ys → FreeAllowed owner u xs
+same_blocks owner (Free base) xs ys same h = ap (λ bs. free_refusal (find (has_base base) bs)) same ∙ h
+same_blocks owner _ xs ys same h = tt
+
+frees-without_first : (p : Entry → Bool) → ((e : Entry) → p e ≡ true → (bs : List Block) → blocks_after e.update bs ≡ bs) → (live : List Entry) →
+    FreesAllowed live → FreesAllowed (without_first p live)
+frees-without_first p none [] f = tt
+frees-without_first p none (e ∷ live) f =
+    elim (p e) as (λ b. FreesAllowed (cond b live (e ∷ without_first p live))) [
+      | true ↦ f.1
+      | false ↦ (
+        same_blocks e.owner e.update (without_first p live) live (granted-without_first_other p none live e.owner) f.0,
+        frees-without_first p none live f.1,
+      )
+    ]
+
+frees-without_last : (p : Entry → Bool) → ((e : Entry) → p e ≡ true → (bs : List Block) → blocks_after e.update bs ≡ bs) → (live : List Entry) →
+    FreesAllowed live → FreesAllowed (without_last p live)
+frees-without_last p none [] f = tt
+frees-without_last p none (e ∷ live) f =
+    elim (list_any p live) as (λ a. FreesAllowed (cond a (e ∷ without_last p live) (cond (p e) live (e ∷ live)))) [
+      | true ↦ (
+        same_blocks e.owner e.update (without_last p live) live (granted-without_last_other p none live e.owner) f.0,
+        frees-without_last p none live f.1,
+      )
+      | false ↦ elim (p e) as (λ b. FreesAllowed (cond b live (e ∷ live))) [ true ↦ f.1 | false ↦ f ]
+    ]
+
+-- an update that is live or ends something leaves the releases allowed
+frees-after_entry : (live : List Entry) (clock owner : ℕ) (u : Update) → refusal_on live clock owner u ≡ None → FreesAllowed live → FreesAllowed (after_entry (entry owner u) live)
+frees-after_entry live clock owner (Grant layout n image) h f = (tt, f)
+frees-after_entry live clock owner (Free base) h f = (h, f)
+frees-after_entry live clock owner (Line line handler) h f = (tt, f)
+frees-after_entry live clock owner (Ports base n) h f = (tt, f)
+frees-after_entry live clock owner (Device id) h f = (tt, f)
+frees-after_entry live clock owner (Lock lock task) h f = (tt, f)
+frees-after_entry live clock owner (Hold domain) h f = (tt, f)
+frees-after_entry live clock owner (Work handler arg) h f = (tt, f)
+frees-after_entry live clock owner (Mask task) h f = (tt, f)
+frees-after_entry live clock owner (Clock now) h f = f
+frees-after_entry live clock owner Taken h f = frees-without_last _ (leaves_key owner (key_of Taken) refl refl) live f
+frees-after_entry live clock owner (Param key value) h f = (tt, frees-without_first _ (leaves_key owner (key_of (Param key value)) refl refl) live f)
+frees-after_entry live clock owner (Timer id due handler arg) h f = (tt, frees-without_first _ (leaves_key owner (key_of (Timer id due handler arg)) refl refl) live f)
+frees-after_entry live clock owner u h f = frees-without_first _ (leaves_key owner (key_of u) refl refl) live f
+
+frees_allowed : (h : History) → IsLawful h → FreesAllowed (live_of h)
+frees_allowed [] l = tt
+frees_allowed (e ∷ h) l = frees-after_entry (live_of h) (clock_of h) e.owner e.update l.0 (frees_allowed h l.1)
+
+-- what is live after a lawful history is sound
+pub lawful_sound : (h : History) → IsLawful h → IsSound (live_of h)
+lawful_sound h l = record {
+  in_range = none_astray h l;
+  frees = frees_allowed h l;
+  singles = one_each h l;
+  locks = one_holder h l;
+}
+
+-- another owner's newest entry, taken away, leaves an owner's blocks
+granted-without_newest : (live : List Entry) (o p : ℕ) → eqb p o ≡ false → granted (without_first (is_owner o) live) p ≡ granted live p
+granted-without_newest [] o p apart = refl
+granted-without_newest (e ∷ live) o p apart = grind (arith, nat_tests, granted-without_newest live o p apart)
+
+frees-without_newest : (o : ℕ) (live : List Entry) → FreesAllowed live → FreesAllowed (without_first (is_owner o) live)
+frees-without_newest o [] f = tt
+frees-without_newest o (e ∷ live) f =
+    elim (is_owner o e) as (λ b. is_owner o e ≡ b → FreesAllowed (cond b live (e ∷ without_first (is_owner o) live))) [
+      | true ↦ λ is. f.1
+      | false ↦ λ is. (
+        same_blocks e.owner e.update (without_first (is_owner o) live) live (granted-without_newest live o e.owner is) f.0,
+        frees-without_newest o live f.1,
+      )
+    ] refl
+
+-- sound entries stay sound where an owner's newest is taken away
+pub sound-without_newest : (o : ℕ) (live : List Entry) → IsSound live → IsSound (without_first (is_owner o) live)
+sound-without_newest o live s = record {
+  in_range = list_any-without_first (is_owner o) is_astray live s.in_range;
+  frees = frees-without_newest o live s.frees;
+  singles = λ owner key single. (let few : count_by (is_of owner key) live ≤ 1 = s.singles owner key single in
+      omega (arith, count_by-without_first (is_owner o) (is_of owner key) live));
+  locks = λ lock. (let few : count_by (is_lock lock) live ≤ 1 = s.locks lock in omega (arith, count_by-without_first (is_owner o) (is_lock lock) live));
+}

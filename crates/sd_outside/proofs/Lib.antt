@@ -1,3 +1,4 @@
 pub mod Counting
 pub mod More
+pub mod Naming
 pub mod Reading

@@ -3,11 +3,16 @@
 //! whole text and write a whole piece.
 #![tactic(auto)]
 
+mod memory_shelf;
+mod memory_sink;
 mod read;
 mod shelf;
 mod sink;
+mod texts;
 mod write;
 
+pub use memory_shelf::MemShelf;
+pub use memory_sink::MemSink;
 pub use read::{TextFault, read_text};
 pub use shelf::Shelf;
 pub use sink::Sink;

@@ -1,3 +1,4 @@
+pub mod CalmShelf
 pub mod Counts
 pub mod MemoryShelf
 pub mod MemorySink

@@ -3,6 +3,7 @@
 //! whole text and write a whole piece.
 #![tactic(auto)]
 
+mod calm;
 mod memory_shelf;
 mod memory_sink;
 mod read;
@@ -11,6 +12,7 @@ mod sink;
 mod texts;
 mod write;
 
+pub use calm::{CalmShelf, CalmSink};
 pub use memory_shelf::MemShelf;
 pub use memory_sink::MemSink;
 pub use read::{TextFault, read_text};

@@ -4,6 +4,7 @@
 #![tactic(auto)]
 
 mod calm;
+mod edge;
 mod memory_shelf;
 mod memory_sink;
 mod read;
@@ -13,6 +14,7 @@ mod texts;
 mod write;
 
 pub use calm::{CalmShelf, CalmSink};
+pub use edge::{FileShelf, OutSink};
 pub use memory_shelf::MemShelf;
 pub use memory_sink::MemSink;
 pub use read::{TextFault, read_text};

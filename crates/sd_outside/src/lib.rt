@@ -10,6 +10,8 @@ mod memory_sink;
 mod read;
 mod shelf;
 mod sink;
+#[cfg(test)]
+mod tests;
 mod texts;
 mod write;
 

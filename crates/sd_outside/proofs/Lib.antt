@@ -1,3 +1,5 @@
 pub mod Counting
 pub mod More
+pub mod Naming
+pub mod NoFaults
 pub mod Reading

@@ -1,3 +1,7 @@
+pub mod CalmShelf
 pub mod Counts
+pub mod MemoryShelf
+pub mod MemorySink
 pub mod Shelf
 pub mod Sink
+pub mod Texts

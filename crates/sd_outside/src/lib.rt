@@ -3,11 +3,22 @@
 //! whole text and write a whole piece.
 #![tactic(auto)]
 
+mod calm;
+mod edge;
+mod memory_shelf;
+mod memory_sink;
 mod read;
 mod shelf;
 mod sink;
+#[cfg(test)]
+mod tests;
+mod texts;
 mod write;
 
+pub use calm::{CalmShelf, CalmSink};
+pub use edge::{FileShelf, OutSink};
+pub use memory_shelf::MemShelf;
+pub use memory_sink::MemSink;
 pub use read::{TextFault, read_text};
 pub use shelf::Shelf;
 pub use sink::Sink;

@@ -13,9 +13,11 @@ counted count n = min (count + n) greatest
 abbrev pub Rose : ℕ → ℕ → Type 0
 Rose before now = (before < now) ⊎ (now ≡ greatest)
 
--- the count rose by more than n
-abbrev pub RoseBeyond : ℕ → ℕ → ℕ → Type 0
-RoseBeyond n before now = (before + n < now) ⊎ (now ≡ greatest)
+-- the count took more than n, so it rose by more than n or stands at its end
+pub record RoseBeyond (n before now : ℕ) : Type 0 where
+  pub taken : ℕ
+  pub beyond : n < taken
+  pub counts : now ≡ counted before taken
 
 -- a count of faults never falls; it rose where the call failed, and stayed where it did not
 pub record HasCause {T E : Type 0} (before now : ℕ) (result : Result T E) : Type 0 where

@@ -1,6 +1,6 @@
 -- Each piece goes on where the one before ended, and the end comes with the whole text.
 use Rattle.std.proofs.Common.{◌≡◌, ◌+◌, ◌-◌, ◌≤◌, ◌<◌, ℕ, length, take, refl, arith, ◌∙◌, sym, ap, vec_len, length-take-le}
-use Rattle.sd_outside.proofs.Counting.{counted-piece, counted-settled, RoseBeyond-counted}
+use Rattle.sd_outside.proofs.Counting.{counted-piece, counted-settled}
 use Rattle.sd_outside.proofs.Reading.{IsFront-start, IsFront-piece, IsFront-end, IsFront-beyond, LeavesOthers-start, LeavesOthers-next}
 use Rattle.sd_outside.proofs.read.read_text.Goals as goal
 
@@ -54,7 +54,7 @@ pub returns-then-len-taken-gt-FILE_BYTES-clause-too_much : goal.returns-then-len
 returns-then-len-taken-gt-FILE_BYTES-clause-too_much g c is =
     let e = c.in-Ok.ensures in
     let far : 1048576 < vec_len c.loop-taken.text + c.in-Ok.taken = omega (arith, c.len.ensures) in
-    RoseBeyond-counted 1048576 _ _ _ far (counted-piece (g.S.Shelf.given c.args.shelf.now) _ _ _ _ c.loop-taken.invariant.given e.counts)
+    record { taken = vec_len c.loop-taken.text + c.in-Ok.taken; beyond = far; counts = counted-piece (g.S.Shelf.given c.args.shelf.now) _ _ _ _ c.loop-taken.invariant.given e.counts }
 
 pub returns-then-len-taken-gt-FILE_BYTES-clause-calm : goal.returns-then-len-taken-gt-FILE_BYTES-clause-calm
 returns-then-len-taken-gt-FILE_BYTES-clause-calm g c differs = c.in-Ok.ensures.cause.kept ∙ c.loop-taken.invariant.calm

@@ -1,0 +1,9 @@
+pub mod Commands
+pub mod Empty
+pub mod Fronts
+pub mod Pieces
+pub mod Runs
+pub mod Scenarios
+pub mod Served
+pub mod Statements
+pub mod Words

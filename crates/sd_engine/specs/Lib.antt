@@ -1,0 +1,5 @@
+pub mod Command
+pub mod Serve
+pub mod ThinRun
+pub mod ThinScenario
+pub mod ThinText

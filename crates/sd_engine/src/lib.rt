@@ -1,0 +1,15 @@
+//! The top of SafeDrive: the words of a command come in, texts are read from a shelf, the run's lines go out to a
+//! sink, and the status comes back.
+#![tactic(auto)]
+
+mod command;
+
+mod status;
+mod thin_run;
+mod thin_scenario;
+mod thin_text;
+mod thin_words;
+mod top_call;
+
+pub use top_call::serve;
+pub use status::Status;

@@ -1,10 +1,10 @@
 -- Texts whose names differ: each is found by its own name.
-use Rattle.std.proofs.Common.{◌≡◌, ℕ, ◌<◌, Bool, true, false, not, ◌&&◌, cond, List, [], ◌∷◌, length, get_or, map, Option, Some, option_map, find, bytes_eq, All, refl, ap, sym, ◌∙◌}
+use Rattle.std.proofs.Common.{◌≡◌, ℕ, ◌<◌, Bool, true, false, not, ◌&&◌, cond, List, [], ◌∷◌, length, get_or, map, Some, option_map, find, bytes_eq, refl, ap, sym, ◌∙◌}
 use Rattle.std.specs.List.{list_all}
 use Rattle.std.specs.Cmp.Lexicographic.{bytes_decides}
 use Rattle.std.proofs.lemmas.List.Elements.{All-nil, All-cons}
 use Rattle.std.proofs.lemmas.List.Folds.{list_all-map, list_all_at}
-use Rattle.sd_outside.specs.Texts.{Text, is_named, left_of, all_differ, names_differ, TellsEach}
+use Rattle.sd_outside.specs.Texts.{Text, is_named, left_of, names_differ, TellsEach}
 
 -- both of two tests passed
 both : (a b : Bool) → (a && b) ≡ true → (a ≡ true) × (b ≡ true)

@@ -1,9 +1,7 @@
 -- A write is refused by its number or for want of room, and what has room is always appended.
-use Rattle.std.proofs.Common.{◌≡◌, ◌<◌, ◌⊎◌, refl, sym, ◌∙◌, inl, inr, length, IsTrue, arith}
+use Rattle.std.proofs.Common.{refl, sym, ◌∙◌, inl, inr, arith}
 use Rattle.std.proofs.lemmas.Bool.Decides.{nat_tests}
 use Rattle.std.proofs.lemmas.Grind.{common_steps}
-use Rattle.sd_outside.specs.Counts.{counted}
-use Rattle.sd_outside.specs.MemoryShelf.{is_to_fail}
 use Rattle.sd_outside.proofs.memory_sink.MemSinkSink.write.Goals as goal
 use Rattle.sd_outside.proofs.memory_sink.MemSinkSink.write.Goals.{then-contains, else-contains+then-left-eq0, else-contains+else-left-eq0, then-is_refused-via-then-is_refused, then-is_refused-via-else-is_refused+then-is_err}
 

@@ -1,5 +1,5 @@
 -- Counts that stay at their end.
-use Rattle.std.proofs.Common.{◌≡◌, ℕ, ◌+◌, ◌<◌, ◌≤◌, ◌⊎◌, min, arith, inl, inr, sym}
+use Rattle.std.proofs.Common.{◌≡◌, ℕ, ◌+◌, ◌<◌, ◌⊎◌, arith}
 use Rattle.sd_outside.specs.Counts.{counted, greatest, RoseBeyond}
 
 -- a count that took more than a limit rose by more than it, or stands at its end

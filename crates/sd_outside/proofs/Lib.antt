@@ -1,4 +1,5 @@
 pub mod Counting
+pub mod Distinct
 pub mod More
 pub mod Naming
 pub mod NoFaults

@@ -1,5 +1,5 @@
 -- Named texts: finding one by its name, and reading on in it.
-use Rattle.std.proofs.Common.{◌≡◌, ℕ, suc, zero, ◌+◌, ◌<◌, ◌≤◌, min, Bool, true, false, not, cond, nat_lt, List, [], ◌∷◌, length, get_or, set, take, drop, map, Option, None, Some, IfSome, option_map, is_some, position, find, bytes_eq, String, Vec, refl, ap, sym, ◌∙◌, arith}
+use Rattle.std.proofs.Common.{◌≡◌, ℕ, suc, zero, ◌+◌, ◌<◌, ◌≤◌, Bool, true, false, not, cond, List, [], ◌∷◌, length, get_or, set, drop, map, Option, None, Some, option_map, is_some, position, find, String, Vec, refl, ap, sym, ◌∙◌, arith}
 use Rattle.std.specs.List.{position_or_len}
 use Rattle.std.proofs.lemmas.Bool.Decides.{nat_tests}
 use Rattle.std.specs.Cmp.Lexicographic.{bytes_decides}

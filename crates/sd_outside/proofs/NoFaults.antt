@@ -1,5 +1,5 @@
 -- A name that is not there, read as one with no bytes.
-use Rattle.std.proofs.Common.{◌≡◌, ℕ, List, [], drop, length, Option, None, Some, IfSome, IfNone, option_map, unwrap_or, refl, ap, sym, arith}
+use Rattle.std.proofs.Common.{◌≡◌, ℕ, List, [], drop, Option, None, Some, IfSome, IfNone, option_map, unwrap_or, refl, ap, sym, arith}
 use Rattle.std.proofs.lemmas.List.{drop_all}
 use Rattle.sd_outside.specs.CalmShelf.{calm_left}
 use Rattle.sd_outside.specs.Shelf.{LeavesOthers}

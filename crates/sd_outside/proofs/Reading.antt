@@ -1,5 +1,5 @@
 -- A text that is read in pieces: what was read is the front of what was left.
-use Rattle.std.proofs.Common.{◌≡◌, ℕ, ◌+◌, ◌-◌, ◌<◌, ◌≤◌, List, [], ◌++◌, length, take, drop, Option, None, Some, IfSome, is_some, option_map, refl, ap, sym, ◌∙◌, arith, append_assoc, append-nil, take-append-drop, length-append, length-take}
+use Rattle.std.proofs.Common.{◌≡◌, ℕ, ◌+◌, ◌<◌, List, [], ◌++◌, length, take, drop, Option, None, Some, IfSome, option_map, refl, ◌∙◌, arith, append_assoc, append-nil, take-append-drop, length-append}
 use Rattle.sd_outside.specs.Shelf.{Gives, LeavesOthers}
 
 -- what was left is the text so far and what is left now

@@ -1,5 +1,5 @@
 -- What a shelf in memory holds, and what a read of it does.
-use Rattle.std.specs.Prelude.{ℕ, Bool, if◌then◌else◌, ◌==◌, List, length, Option, None, Some, option_map}
+use Rattle.std.specs.Prelude.{ℕ, Bool, if◌then◌else◌, ◌==◌, List, Option, None, Some, option_map}
 use Rattle.std.specs.List.{list_any}
 use Rattle.sd_outside.specs.Counts.{counted}
 use Rattle.sd_outside.specs.Texts.{Text, left_of, read_on, moved}

@@ -1,5 +1,5 @@
 -- Named texts, each read from its front.
-use Rattle.std.specs.Prelude.{ℕ, Bool, true, ◌&&◌, not, min, if◌then◌else◌, List, [], ◌∷◌, length, drop, map, Option, option_map, unwrap_or, find, bytes_eq, String, string_bytes, Vec}
+use Rattle.std.specs.Prelude.{◌≡◌, ℕ, Bool, true, ◌&&◌, not, min, if◌then◌else◌, List, [], ◌∷◌, length, drop, map, Option, Some, option_map, find, All, bytes_eq, String, string_bytes, Vec}
 use Rattle.std.specs.List.{list_all}
 
 -- a text: its name, and its bytes that are not read yet
@@ -36,3 +36,11 @@ moved most room left = min most (min room (length left))
 abbrev pub all_differ : List (List ℕ) → Bool
 all_differ [] = true
 all_differ (x ∷ xs) = list_all (λ y. not (bytes_eq x y)) xs && all_differ xs
+
+-- no two texts have the same name
+abbrev pub names_differ : List Text → Bool
+names_differ texts = all_differ (map (λ t. t.name) texts)
+
+-- under the name of each text its own bytes are left
+abbrev pub TellsEach : List Text → Type 0
+TellsEach texts = All (λ t. left_of texts t.name ≡ Some t.bytes) texts

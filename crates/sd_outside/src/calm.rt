@@ -1,10 +1,9 @@
 //! A shelf and a sink that never fail.
-ghost use Rattle.std.specs.Prelude.{◌≡◌, ◌<◌, ◌≤◌, IsTrue, Ok, Some, None, IfOk, OnErr, IfSome, length, map, min, drop, take, option_map, string_bytes};
-ghost use Rattle.sd_outside.specs.Counts.{counted, HasCause};
+ghost use Rattle.std.specs.Prelude.{◌≡◌, ◌≤◌, IsTrue, Ok, Some, IfOk, length, map, min, drop};
+ghost use Rattle.sd_outside.specs.Counts.{counted};
 ghost use Rattle.sd_outside.specs.CalmShelf.{calm_left};
 ghost use Rattle.sd_outside.specs.Shelf.{Gives, LeavesOthers};
-ghost use Rattle.sd_outside.specs.Sink.{more};
-ghost use Rattle.sd_outside.specs.Texts.{text_of, all_differ, read_on};
+ghost use Rattle.sd_outside.specs.Texts.{text_of, names_differ, TellsEach};
 
 use crate::texts::Texts;
 use crate::{Failed, Shelf, Sink};
@@ -28,8 +27,9 @@ impl Model for CalmShelf {
 impl CalmShelf {
     /// A shelf of these texts by their names, which differ.
     pub fn new(texts: Vec<(String, Vec<u8>)>) -> CalmShelf
-        requires { IsTrue (all_differ (map (λ t. string_bytes t.0) texts.items)) }
-        ensures { result ≡ record { texts = map text_of texts.items; given = 0 } }
+        requires { IsTrue (names_differ (map text_of texts.items)) }
+        ensures told { TellsEach result.texts }
+        ensures exact { result ≡ record { texts = map text_of texts.items; given = 0 } }
     {
         CalmShelf {
             texts: Texts::new(texts),

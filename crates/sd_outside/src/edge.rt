@@ -7,8 +7,8 @@ use std::io::Read;
 use std::rt::Files;
 use std::{fs, io};
 
-/// The files of the program, each read by its path from its start on. One file is open at a time: a read of another
-/// name closes it and opens that one.
+/// The files of the program, each read by its path from its start on. One file is open at a time: where a read of
+/// another name succeeds, that one is open from then on.
 #[derive(Drop)]
 pub struct FileShelf<'a, R: Files> {
     runtime: &'a R,
@@ -27,8 +27,8 @@ struct Open<F: Drop> {
 impl<'a, R: Files + AllocGlobal> FileShelf<'a, R> {
     /// A shelf of the program's files, none of which is open yet.
     pub fn new(runtime: &'a R) -> FileShelf<'a, R>
-        ensures given { result.given ≡ 0 }
-        ensures faults { result.faults ≡ 0 }
+        ensures given { ⟦<FileShelf<'a, R> as Shelf>⟧.given result ≡ 0 }
+        ensures faults { ⟦<FileShelf<'a, R> as Shelf>⟧.faults result ≡ 0 }
     {
         FileShelf {
             runtime,
@@ -93,7 +93,7 @@ pub struct OutSink<'a, R> {
 impl<'a, R: Print> OutSink<'a, R> {
     /// A sink over the program's standard output.
     pub fn new(runtime: &'a R) -> OutSink<'a, R>
-        ensures { result.faults ≡ 0 }
+        ensures { ⟦<OutSink<'a, R> as Sink>⟧.faults result ≡ 0 }
     {
         OutSink { runtime, faults: 0 }
     }

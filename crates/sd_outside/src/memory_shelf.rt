@@ -1,10 +1,10 @@
 //! A shelf in memory, whose reads are short and fail where its maker wants.
-ghost use Rattle.std.specs.Prelude.{◌≡◌, ◌≤◌, IsTrue, IfOk, OnErr, IfSome, EachIndex, Some, length, map, drop, option_map, slice_index_or, string_bytes};
+ghost use Rattle.std.specs.Prelude.{◌≡◌, ◌≤◌, ◌↔◌, ◌⊎◌, IsTrue, IsErr, IsNone, IfOk, OnErr, IfSome, length, map, drop, option_map};
 ghost use Rattle.std.specs.Result.{result_ok};
 ghost use Rattle.sd_outside.specs.Counts.{counted, HasCause};
-ghost use Rattle.sd_outside.specs.MemoryShelf.{read_answer, after_read};
+ghost use Rattle.sd_outside.specs.MemoryShelf.{is_to_fail, read_answer, after_read};
 ghost use Rattle.sd_outside.specs.Shelf.{Gives, LeavesOthers};
-ghost use Rattle.sd_outside.specs.Texts.{text_of, left_of, all_differ};
+ghost use Rattle.sd_outside.specs.Texts.{text_of, left_of, names_differ, TellsEach};
 
 use crate::texts::Texts;
 use crate::{Failed, Shelf};
@@ -38,8 +38,9 @@ impl MemShelf {
     /// counted from 1, and no call moves more than `most` bytes, which is at least 1.
     pub fn new(texts: Vec<(String, Vec<u8>)>, fail: Vec<u64>, most: usize) -> MemShelf
         requires some { 1 ≤ most }
-        requires differ { IsTrue (all_differ (map (λ t. string_bytes t.0) texts.items)) }
-        ensures { result ≡ record { texts = map text_of texts.items; fail = fail.items; most = most; calls = 0; given = 0; faults = 0 } }
+        requires differ { IsTrue (names_differ (map text_of texts.items)) }
+        ensures told { TellsEach result.texts }
+        ensures exact { result ≡ record { texts = map text_of texts.items; fail = fail.items; most = most; calls = 0; given = 0; faults = 0 } }
     {
         MemShelf {
             texts: Texts::new(texts),
@@ -65,6 +66,7 @@ impl Shelf for MemShelf {
     ///
     /// `Failed`: the number of the call is among those that are to fail, or the name is not there.
     fn read(&mut self, name: &str, buf: &mut [u8]) -> Result<usize, Failed>
+        ensures failed { IsErr result ↔ (IsTrue (is_to_fail self.old.fail (counted self.old.calls 1)) ⊎ IsNone (left_of self.old.texts name.now)) }
         ensures exact { result_ok result ≡ read_answer self.old name.now (length buf.old) }
         ensures after { self.new ≡ after_read self.old name.now (result_ok result) }
         ensures room { IfOk result (λ n. n ≤ length buf.new) }

@@ -1,7 +1,8 @@
 //! A sink in memory, whose writes are short and fail where its maker wants.
-ghost use Rattle.std.specs.Prelude.{◌≡◌, ◌<◌, ◌≤◌, List, [], Some, IfOk, OnErr, length, take};
+ghost use Rattle.std.specs.Prelude.{◌≡◌, ◌<◌, ◌≤◌, ◌↔◌, ◌⊎◌, IsTrue, IsErr, List, [], Some, IfOk, OnErr, length, take};
 ghost use Rattle.std.specs.Result.{result_ok};
-ghost use Rattle.sd_outside.specs.Counts.{HasCause};
+ghost use Rattle.sd_outside.specs.Counts.{counted, HasCause};
+ghost use Rattle.sd_outside.specs.MemoryShelf.{is_to_fail};
 ghost use Rattle.sd_outside.specs.MemorySink.{write_answer, after_write};
 ghost use Rattle.sd_outside.specs.Sink.{more};
 
@@ -75,6 +76,7 @@ impl Sink for MemSink {
     ///
     /// `Failed`: the number of the call is among those that are to fail, or there is a byte to write and no room.
     fn write(&mut self, bytes: &[u8]) -> Result<usize, Failed>
+        ensures failed { IsErr result ↔ (IsTrue (is_to_fail self.old.fail (counted self.old.calls 1)) ⊎ ((0 < length bytes.now) × (length self.old.bytes ≡ self.old.room))) }
         ensures exact { result_ok result ≡ write_answer self.old bytes.now }
         ensures after { self.new ≡ after_write self.old bytes.now (result_ok result) }
         ensures fits { IfOk result (λ n. n ≤ length bytes.now) }

@@ -1,10 +1,10 @@
 //! What no clause says: that each call can succeed, and what a file and standard output do.
-ghost use Rattle.std.specs.Prelude.{IsTrue, IfOk, map, string_bytes};
-ghost use Rattle.sd_outside.specs.Texts.{all_differ};
+ghost use Rattle.std.specs.Prelude.{IsTrue, IfOk, map};
+ghost use Rattle.sd_outside.specs.Texts.{text_of, names_differ};
 
 use crate::{
-    CalmShelf, CalmSink, FileShelf, MemShelf, MemSink, OutSink, TextFault, WriteFault, read_text,
-    write_all,
+    CalmShelf, CalmSink, FileShelf, MemShelf, MemSink, OutSink, Shelf, TextFault, WriteFault,
+    read_text, write_all,
 };
 use std::alloc::{AllocError, Global};
 use std::fs;
@@ -12,7 +12,7 @@ use std::test::Fail;
 
 /// A driver and a scenario.
 fn two_texts(alloc: Global) -> Result<Vec<(String, Vec<u8>)>, AllocError>
-    ensures differ { IfOk result (λ texts. IsTrue (all_differ (map (λ t. string_bytes t.0) texts.items))) }
+    ensures differ { IfOk result (λ texts. IsTrue (names_differ (map text_of texts.items))) }
 {
     let mut texts = Vec::new(alloc);
     let driver = Vec::from_slice(alloc, b"int init(void)")?;
@@ -22,21 +22,29 @@ fn two_texts(alloc: Global) -> Result<Vec<(String, Vec<u8>)>, AllocError>
     Ok(texts)
 }
 
+/// Does the shelf have these bytes left under that name?
+fn reads<S: Shelf>(alloc: Global, shelf: &mut S, name: &str, want: &str) -> bool {
+    match read_text(alloc, shelf, name) {
+        Ok(text) => text.as_slice() == want.as_bytes(),
+        Err(_) => false,
+    }
+}
+
+/// Does the shelf fail to read that name?
+fn fails<S: Shelf>(alloc: Global, shelf: &mut S, name: &str) -> bool {
+    read_text(alloc, shelf, name) == Err(TextFault::ReadFault)
+}
+
 #[test]
 fn a_text_is_read_whole_however_short_the_reads_are(rt: HostRuntime) -> Result<(), Fail> {
     let alloc = rt.alloc();
     for most in [1, 3, 100] {
         let mut shelf = MemShelf::new(two_texts(alloc)?, Vec::new(alloc), most);
-        let text = read_text(alloc, &mut shelf, "d1.c")?;
-        assert_eq!(rt; text.as_slice(), b"int init(void)".as_slice(), "at {most}");
-        let text = read_text(alloc, &mut shelf, "s")?;
-        assert_eq!(rt; text.as_slice(), b"load d1 1".as_slice(), "at {most}");
-        let rest = read_text(alloc, &mut shelf, "s")?;
-        assert!(rt; rest.is_empty(), "at {most}");
-        assert!(rt;
-            read_text(alloc, &mut shelf, "no") == Err(TextFault::ReadFault),
-            "at {most}"
-        );
+        let whole = reads(alloc, &mut shelf, "d1.c", "int init(void)")
+            && reads(alloc, &mut shelf, "s", "load d1 1")
+            && reads(alloc, &mut shelf, "s", "")
+            && fails(alloc, &mut shelf, "no");
+        assert!(rt; whole, "at {most}");
     }
     Ok(())
 }
@@ -46,9 +54,8 @@ fn a_read_that_fails_takes_nothing(rt: HostRuntime) -> Result<(), Fail> {
     let alloc = rt.alloc();
     let second = Vec::from_slice(alloc, &[2])?;
     let mut shelf = MemShelf::new(two_texts(alloc)?, second, 3);
-    assert!(rt; read_text(alloc, &mut shelf, "s") == Err(TextFault::ReadFault));
-    let rest = read_text(alloc, &mut shelf, "s")?;
-    assert_eq!(rt; rest.as_slice(), b"d d1 1".as_slice());
+    let kept = fails(alloc, &mut shelf, "s") && reads(alloc, &mut shelf, "s", "d d1 1");
+    assert!(rt; kept);
     Ok(())
 }
 
@@ -56,22 +63,11 @@ fn a_read_that_fails_takes_nothing(rt: HostRuntime) -> Result<(), Fail> {
 fn a_write_that_fails_leaves_a_prefix(rt: HostRuntime) -> Result<(), Fail> {
     let alloc = rt.alloc();
     let second = Vec::from_slice(alloc, &[2])?;
-    let mut sink = MemSink::new(alloc, 100, second, 5)?;
-    assert!(rt; write_all(&mut sink, b"d1 loaded\n") == Err(WriteFault::Failed));
-    assert_eq!(rt; sink.bytes(), b"d1 lo".as_slice());
-    assert!(rt; write_all(&mut sink, b"aded\n") == Ok(()));
-    assert_eq!(rt; sink.bytes(), b"d1 loaded\n".as_slice());
-    Ok(())
-}
-
-#[test]
-fn a_sink_takes_no_more_than_its_room(rt: HostRuntime) -> Result<(), Fail> {
-    let alloc = rt.alloc();
-    let mut sink = MemSink::new(alloc, 12, Vec::new(alloc), 5)?;
-    assert!(rt; write_all(&mut sink, b"d1 loaded\n") == Ok(()));
-    assert!(rt; write_all(&mut sink, b"end 0\n") == Err(WriteFault::Failed));
-    assert!(rt; write_all(&mut sink, b"") == Ok(()));
-    assert_eq!(rt; sink.bytes(), b"d1 loaded\nen".as_slice());
+    let mut sink = MemSink::new(alloc, 12, second, 5)?;
+    let failed = write_all(&mut sink, b"d1 loaded\n") == Err(WriteFault::Failed);
+    assert!(rt; failed && sink.bytes() == b"d1 lo".as_slice());
+    let past_room = write_all(&mut sink, b"aded\nend 0\n") == Err(WriteFault::Failed);
+    assert!(rt; past_room && sink.bytes() == b"d1 loaded\nen".as_slice());
     Ok(())
 }
 
@@ -79,38 +75,32 @@ fn a_sink_takes_no_more_than_its_room(rt: HostRuntime) -> Result<(), Fail> {
 fn what_never_fails_has_no_bytes_of_an_absent_name(rt: HostRuntime) -> Result<(), Fail> {
     let alloc = rt.alloc();
     let mut shelf = CalmShelf::new(two_texts(alloc)?);
-    let text = read_text(alloc, &mut shelf, "s")?;
-    assert_eq!(rt; text.as_slice(), b"load d1 1".as_slice());
-    let absent = read_text(alloc, &mut shelf, "no")?;
-    assert!(rt; absent.is_empty());
-    assert!(rt; write_all(&mut CalmSink::new(), b"end 0\n") == Ok(()));
+    let calm = reads(alloc, &mut shelf, "s", "load d1 1")
+        && reads(alloc, &mut shelf, "no", "")
+        && write_all(&mut CalmSink::new(), b"end 0\n") == Ok(());
+    assert!(rt; calm);
     Ok(())
 }
 
 #[test]
 fn a_file_is_read_on_while_it_is_the_open_one(rt: HostRuntime) -> Result<(), Fail> {
     let alloc = rt.alloc();
-    fs::write(&rt, "s", "load d1 1\n")?;
-    fs::write(&rt, "d1.c", "int init(void)\n")?;
+    fs::write(&rt, "s", "load d1 1")?;
+    fs::write(&rt, "d1.c", "int init(void)")?;
     let mut shelf = FileShelf::new(&rt);
-    for (name, want) in [
-        ("s", "load d1 1\n"),
-        ("s", ""),
-        ("d1.c", "int init(void)\n"),
-        ("s", "load d1 1\n"),
-    ] {
-        let text = read_text(alloc, &mut shelf, name)?;
-        assert_eq!(rt; text.as_slice(), want.as_bytes(), "at {name}");
-    }
-    for name in ["no such file", "."] {
-        let refused = read_text(alloc, &mut shelf, name) == Err(TextFault::ReadFault);
-        assert!(rt; refused, "at {name}");
-    }
+    let read = reads(alloc, &mut shelf, "s", "load d1 1")
+        && reads(alloc, &mut shelf, "s", "")
+        && reads(alloc, &mut shelf, "d1.c", "int init(void)")
+        && reads(alloc, &mut shelf, "s", "load d1 1");
+    assert!(rt; read);
+    let refused = fails(alloc, &mut shelf, "no such file") && fails(alloc, &mut shelf, ".");
+    assert!(rt; refused);
     Ok(())
 }
 
 #[test]
 fn standard_output_takes_a_line(rt: HostRuntime) -> Result<(), Fail> {
-    assert!(rt; write_all(&mut OutSink::new(&rt), b"end 0\n") == Ok(()));
+    let written = write_all(&mut OutSink::new(&rt), b"end 0\n");
+    assert!(rt; written == Ok(()));
     Ok(())
 }

@@ -1,7 +1,7 @@
 -- Each piece goes on where the one before ended, and the end comes with the whole text.
-use Rattle.std.proofs.Common.{◌≡◌, ◌+◌, ◌-◌, ◌≤◌, ◌<◌, ℕ, length, take, refl, arith, ◌∙◌, sym, ap, vec_len, length-take-le}
+use Rattle.std.proofs.Common.{◌≡◌, ◌+◌, ◌<◌, ℕ, length, take, refl, arith, ◌∙◌, ap, vec_len, length-take-le}
 use Rattle.sd_outside.proofs.Counting.{counted-piece, counted-settled}
-use Rattle.sd_outside.proofs.Reading.{IsFront-start, IsFront-piece, IsFront-end, IsFront-beyond, LeavesOthers-start, LeavesOthers-next}
+use Rattle.sd_outside.proofs.Reading.{IsFront-start, IsFront-piece, IsFront-beyond, LeavesOthers-start, LeavesOthers-next}
 use Rattle.sd_outside.proofs.read.read_text.Goals as goal
 
 pub loop-taken-init : goal.loop-taken-init

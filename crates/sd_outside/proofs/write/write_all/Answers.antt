@@ -1,5 +1,5 @@
 -- Each write goes on where the one before ended; after one that failed a front part is written.
-use Rattle.std.proofs.Common.{◌≡◌, ◌+◌, ◌-◌, ◌≤◌, length, take, drop, arith, ◌∙◌, length-drop}
+use Rattle.std.proofs.Common.{◌-◌, ◌≤◌, length, arith, ◌∙◌, length-drop}
 use Rattle.std.proofs.lemmas.List.{take_rest}
 use Rattle.sd_outside.proofs.More.{more-front, IsCut-front}
 use Rattle.sd_outside.proofs.write.write_all.Goals as goal

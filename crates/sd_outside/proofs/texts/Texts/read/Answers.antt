@@ -1,6 +1,6 @@
 -- What the place of the name tells of the texts before the read and after it.
-use Rattle.std.proofs.Common.{◌≡◌, ℕ, ◌≤◌, min, length, take, map, None, Some, option_map, position, IfSome, refl, ap, sym, ◌∙◌, arith, rules}
-use Rattle.sd_outside.specs.Texts.{text_of, is_named, left_of, read_on, moved}
+use Rattle.std.proofs.Common.{◌≡◌, ℕ, None, Some, position, refl, ap, sym, ◌∙◌, arith}
+use Rattle.sd_outside.specs.Texts.{text_of, is_named}
 use Rattle.sd_outside.proofs.Naming.{left_of-none, left_of-at, read_on-at}
 use Rattle.sd_outside.proofs.texts.Texts.read.Goals as goal
 

@@ -27,9 +27,10 @@ module _ {T X : Type 0} (R : T → List X → Type 0) where
   -- where the rest reads as nothing and as nothing else, the items are the one reading
   pub IsFront-end : (text rest : T) (items : List X) → IsFront R text rest items → R rest [] → ((ys : List X) → R rest ys → ys ≡ [])
       → R text items × ((ys : List X) → R text ys → ys ≡ items)
-  IsFront-end text rest items front empty only =
-      (rw append-nil at (front.joins [] empty),
-       λ ys r. let f = front.splits ys r in f.1 ∙ ap (λ (zs : List X). items ++ zs) (only f.0 f.2) ∙ append-nil items)
+  IsFront-end text rest items front empty only = (
+    rw append-nil at (front.joins [] empty),
+    λ ys r. let f = front.splits ys r in f.1 ∙ ap (λ (zs : List X). items ++ zs) (only f.0 f.2) ∙ append-nil items,
+  )
 
   -- where the rest has no reading, the text has none
   pub IsFront-stuck : (text rest : T) (items : List X) → IsFront R text rest items → ((ys : List X) → R rest ys → ⊥) → (ys : List X) → R text ys → ⊥

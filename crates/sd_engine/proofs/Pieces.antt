@@ -6,12 +6,13 @@ use Rattle.sd_engine.specs.ThinText.{is_blank, is_word_byte, begins_word, pieces
 -- a letter or a digit is no blank
 pub word-not-blank : (b : ℕ) → is_word_byte b ≡ true → is_blank b ≡ false
 word-not-blank b word = elim (eqb_tells b 32) [
-  inl is ↦ absurd (space b is.1 word)
+  | inl is ↦ absurd (space b is.1 word)
   | inr not_space ↦ elim (eqb_tells b 10) [ inl is ↦ absurd (feed b is.1 word) | inr not_feed ↦ rw (not_space.0, not_feed.0) refl ]
 ]
   where
     space : (b : ℕ) → b ≡ 32 → is_word_byte b ≡ true → ⊥
     space b e word = let h : is_word_byte 32 ≡ true = rw e at word in cc h
+
     feed : (b : ℕ) → b ≡ 10 → is_word_byte b ≡ true → ⊥
     feed b e word = let h : is_word_byte 10 ≡ true = rw e at word in cc h
 
@@ -27,7 +28,7 @@ pieces-run (suc n) b [] word run within ends = absurd (omega arith)
 pieces-run (suc n) b (c ∷ t) word run within ends =
     let next : is_word_byte c ≡ true = run 0 (omega arith) in
     let more : pieces (c ∷ t) ≡ (c ∷ take n t) ∷ pieces (drop n t) =
-        pieces-run n c t next (λ k h. run (suc k) (omega arith)) (omega arith) ends in
+    pieces-run n c t next (λ k h. run (suc k) (omega arith)) (omega arith) ends in
     glued b (c ∷ t) word next ∙ ap (λ (ps : List (List ℕ)). with_byte true b ps) more
 
 -- a byte that is no letter, digit or blank is one piece

@@ -49,13 +49,13 @@ module _ (w whole : Option (List ℕ)) (rest after : List Statement) where
   pub told-print : (now : Option (List ℕ)) (n : ℕ) → more w (run_lines rest) ≡ whole → rest ≡ Print n ∷ after → now ≡ more w (number_line (codes "d1 t1 print ") n) → more now (run_lines after) ≡ whole
   told-print now n told is e =
       written-piece w now whole (number_line (codes "d1 t1 print ") n) (run_lines after) e
-          (ap (λ (l : List ℕ). more w l) (sym (print-first n after) ∙ ap run_lines (sym is)) ∙ told)
+      (ap (λ (l : List ℕ). more w l) (sym (print-first n after) ∙ ap run_lines (sym is)) ∙ told)
 
   -- a print that was cut leaves a front part of the lines
   pub cut-print : (now : Option (List ℕ)) (n : ℕ) → more w (run_lines rest) ≡ whole → rest ≡ Print n ∷ after → IsCut now (more w (number_line (codes "d1 t1 print ") n)) → IsCut now whole
   cut-print now n told is cut =
       IsCut-more w now whole (number_line (codes "d1 t1 print ") n) (run_lines after) cut
-          (ap (λ (l : List ℕ). more w l) (sym (print-first n after) ∙ ap run_lines (sym is)) ∙ told)
+      (ap (λ (l : List ℕ). more w l) (sym (print-first n after) ∙ ap run_lines (sym is)) ∙ told)
 
   -- the line of a return ends the lines
   pub told-return : (n : ℕ) → more w (run_lines rest) ≡ whole → rest ≡ Return n ∷ after → more w (number_line (codes "d1 t1 done ") n) ≡ whole

@@ -122,7 +122,7 @@ IsLines-stuck text more none (e ∷ []) (inr is) = none e [] (inr (append_cancel
 IsLines-stuck text more none (e ∷ f ∷ fs) (inr is) =
     let more_lines = ends-with-feed f fs in
     let joined : text ++ 10 ∷ [] ≡ (line_of e ++ 10 ∷ more_lines.0) ++ 10 ∷ [] =
-        is ∙ ap (λ (l : List ℕ). line_of e ++ 10 ∷ l) more_lines.1 ∙ sym (append_assoc (line_of e) (10 ∷ more_lines.0) (10 ∷ [])) in
+    is ∙ ap (λ (l : List ℕ). line_of e ++ 10 ∷ l) more_lines.1 ∙ sym (append_assoc (line_of e) (10 ∷ more_lines.0) (10 ∷ [])) in
     none e more_lines.0 (inl (append_cancel_right text (line_of e ++ 10 ∷ more_lines.0) (10 ∷ []) joined))
 
 -- the text after a line is shorter

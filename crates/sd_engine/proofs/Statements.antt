@@ -64,9 +64,10 @@ pub function-read : (words body rest : List ThinWord) (items : List Statement) �
     → (words ≡ head_words ++ body_words items) × ((others : List Statement) → words ≡ head_words ++ body_words others → others ≡ items)
 function-read words body rest items is front end =
     let P : List ThinWord → Type 0 = λ l. IsFront AreStatements body l items in
-    let e = IsFront-end AreStatements body (word.BraceClose ∷ []) items (subst P end front) refl only-end in
-    (is ∙ ap (λ (l : List ThinWord). head_words ++ l) e.0,
-     λ others all. e.1 others (append_cancel_left head_words body (body_words others) (sym is ∙ all)))
+    let e = IsFront-end AreStatements body (word.BraceClose ∷ []) items (subst P end front) refl only-end in (
+      is ∙ ap (λ (l : List ThinWord). head_words ++ l) e.0,
+      λ others all. e.1 others (append_cancel_left head_words body (body_words others) (sym is ∙ all)),
+    )
 
 -- a text whose words are none is not thin
 pub thin-no-words : (text : List ℕ) → ((words : List ThinWord) → length words ≤ 200000 → AreWords (pieces text) words → ⊥) → (list : List Statement) → IsThin text list → ⊥
@@ -76,12 +77,13 @@ thin-no-words text none list is = none (head_words ++ body_words list) is.few is
 pub thin-found : (text : List ℕ) (words given : List ThinWord) → given ≡ words → length words ≤ 200000 → AreWords (pieces text) words → ((others : List ThinWord) → AreWords (pieces text) others → others ≡ words)
     → (found : Option (Vec Statement Global))
     → MatchOption found ((list : List Statement) → given ≡ head_words ++ body_words list → ⊥)
-        (λ v. (given ≡ head_words ++ body_words v.items) × ((others : List Statement) → given ≡ head_words ++ body_words others → others ≡ v.items))
+    (λ v. (given ≡ head_words ++ body_words v.items) × ((others : List Statement) → given ≡ head_words ++ body_words others → others ≡ v.items))
     → MatchOption found ((list : List Statement) → IsThin text list → ⊥) (λ v. IsThin text v.items × ((others : List Statement) → IsThin text others → others ≡ v.items))
 thin-found text words given same few are only None none = λ list is. none list (same ∙ sym (only (head_words ++ body_words list) is.words))
 thin-found text words given same few are only (Some v) some =
     let e : words ≡ head_words ++ body_words v.items = sym same ∙ some.0 in
     let P : List ThinWord → Type 0 = λ ws. length ws ≤ 200000 in
-    let Q : List ThinWord → Type 0 = λ ws. AreWords (pieces text) ws in
-    (record { few = subst P e few; words = subst Q e are },
-     λ others is. some.1 others (same ∙ sym (only (head_words ++ body_words others) is.words)))
+    let Q : List ThinWord → Type 0 = λ ws. AreWords (pieces text) ws in (
+      record { few = subst P e few; words = subst Q e are },
+      λ others is. some.1 others (same ∙ sym (only (head_words ++ body_words others) is.words)),
+    )

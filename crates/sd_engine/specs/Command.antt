@@ -11,15 +11,16 @@ abbrev pub is_file_word : List ℕ → Bool
 is_file_word [] = false
 is_file_word (b ∷ _) = not (nat_eq b 45)
 
--- a run of one driver: the names of its scenario and of its driver
-pub record RunWords : Type 0 where
-  pub scenario : List ℕ
-  pub driver : List ℕ
+-- what a command asks for, and the names of its files
+pub data CommandWords : Type 0 where
+  run_words : (scenario driver : List ℕ) → CommandWords
+  check_words : (driver : List ℕ) → CommandWords
 
--- the run that the words name: `run`, a scenario and a driver, whose names differ
-abbrev pub command_of : List (List ℕ) → Option RunWords
+-- the command that the words are: `run`, a scenario and a driver, whose names differ, or `check` and a driver
+abbrev pub command_of : List (List ℕ) → Option CommandWords
+command_of (mode ∷ driver ∷ []) = if same_text mode (codes "check") && is_file_word driver then Some (check_words driver) else None
 command_of (mode ∷ scenario ∷ driver ∷ []) =
     if same_text mode (codes "run") && is_file_word scenario && is_file_word driver && not (same_text scenario driver)
-    then Some (record { scenario = scenario; driver = driver })
+    then Some (run_words scenario driver)
     else None
 command_of _ = None

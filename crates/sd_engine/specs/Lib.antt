@@ -1,4 +1,5 @@
 pub mod Command
+pub mod Meaning
 pub mod Serve
 pub mod ThinRun
 pub mod ThinScenario

@@ -3,7 +3,6 @@
 #![tactic(auto)]
 
 mod command;
-
 mod status;
 mod thin_run;
 mod thin_scenario;
@@ -11,5 +10,8 @@ mod thin_text;
 mod thin_words;
 mod top_call;
 
-pub use top_call::serve;
 pub use status::Status;
+pub use top_call::serve;
+
+#[cfg(test)]
+mod tests;

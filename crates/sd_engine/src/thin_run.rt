@@ -25,7 +25,11 @@ pub enum Stage {
 /// `end N` with the number of steps last. It takes no memory.
 ///
 /// `WriteFault`: a write failed; a front part of the lines was written.
-pub fn thin_run<K: Sink>(sink: &mut K, statements: &[Statement], events: &[Event]) -> Result<(), WriteFault>
+pub fn thin_run<K: Sink>(
+    sink: &mut K,
+    statements: &[Statement],
+    events: &[Event],
+) -> Result<(), WriteFault>
     ensures ok { OnOk result (K.written sink.new ≡ more (K.written sink.old) (thin_lines statements.now events.now)) }
     ensures err { OnErr result (IsCut (K.written sink.new) (more (K.written sink.old) (thin_lines statements.now events.now))) }
     ensures cause { HasCause (K.faults sink.old) (K.faults sink.new) result }
@@ -39,7 +43,12 @@ pub fn thin_run<K: Sink>(sink: &mut K, statements: &[Statement], events: &[Event
 }
 
 /// Serves one event, and answers the stage after it.
-fn thin_event<K: Sink>(sink: &mut K, statements: &[Statement], stage: Stage, event: Event) -> Result<Stage, WriteFault>
+fn thin_event<K: Sink>(
+    sink: &mut K,
+    statements: &[Statement],
+    stage: Stage,
+    event: Event,
+) -> Result<Stage, WriteFault>
     ensures ok { OnOk result (K.written sink.new ≡ more (K.written sink.old) (event_lines statements.now stage event)) }
     ensures next { IfOk result (λ next. next ≡ stage_after statements.now stage event) }
     ensures err { OnErr result (IsCut (K.written sink.new) (more (K.written sink.old) (event_lines statements.now stage event))) }

@@ -34,7 +34,7 @@ fn statements(alloc: Global, words: &[ThinWord]) -> Result<Option<Vec<Statement>
     ensures { IfOk result (λ found. MatchOption found
         ((list : List Statement) → words.now ≡ head_words ++ body_words list → ⊥)
         (λ list. (words.now ≡ head_words ++ body_words list.items)
-            × ((others : List Statement) → words.now ≡ head_words ++ body_words others → others ≡ list.items))) }
+        × ((others : List Statement) → words.now ≡ head_words ++ body_words others → others ≡ list.items))) }
 {
     let Some(body) = after_head(words) else {
         return Ok(None);

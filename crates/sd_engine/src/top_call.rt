@@ -2,10 +2,10 @@
 ghost use Rattle.std.specs.Prelude.{◌≡◌, ◌≢◌, ◌↔◌, IfSome, None, map};
 ghost use Rattle.std.specs.String.{string_bytes};
 ghost use Rattle.sd_outside.specs.Counts.{Rose, RoseBeyond};
-ghost use Rattle.sd_engine.specs.Command.{command_of};
-ghost use Rattle.sd_engine.specs.Serve.{Answers, IsAfterTexts, IsRun, IsTooLong, IsWritten, Writes, WritesNothing, status_of};
+ghost use Rattle.sd_engine.specs.Command.{check_words, command_of, run_words};
+ghost use Rattle.sd_engine.specs.Serve.{CheckAnswers, IsAfterTexts, IsPossible, IsServed, IsTooLong, IsWritten, RunAnswers, Writes, WritesNothing, status_of};
 
-use crate::command::command;
+use crate::command::{Command, read_words};
 use crate::status::Status;
 use crate::thin_run::thin_run;
 use crate::thin_scenario::thin_scenario;
@@ -19,7 +19,12 @@ use std::alloc::Global;
 /// The order is: the words (`Usage`), the files in their order (`ReadFault`, `TooLong`), the driver's text (`Refused`),
 /// the scenario (`BadScenario`), and only then the run. `Usage`, `ReadFault`, `TooLong` and `OutOfMemory` write nothing;
 /// `WriteFault` leaves a front part of the output.
-pub fn serve<S: Shelf, K: Sink>(alloc: Global, words: &[String], shelf: &mut S, sink: &mut K) -> Status
+pub fn serve<S: Shelf, K: Sink>(
+    alloc: Global,
+    words: &[String],
+    shelf: &mut S,
+    sink: &mut K,
+) -> Status
     // The words are no command exactly where the answer is Usage.
     ensures usage { (result ≡ Status.Usage) ↔ (command_of (map string_bytes words.now) ≡ None) }
 
@@ -28,7 +33,7 @@ pub fn serve<S: Shelf, K: Sink>(alloc: Global, words: &[String], shelf: &mut S, 
     ensures reads { result ≢ Status.ReadFault → S.faults shelf.new ≡ S.faults shelf.old }
 
     // A file is too long where the shelf tells it, and over every shelf more than the limit was read.
-    ensures too_long { result ≡ Status.TooLong → IfSome (command_of (map string_bytes words.now)) (λ names. IsTooLong (S.left shelf.old) names) }
+    ensures too_long { result ≡ Status.TooLong → IfSome (command_of (map string_bytes words.now)) (IsTooLong (S.left shelf.old)) }
     ensures too_much { result ≡ Status.TooLong → RoseBeyond 1048576 (S.given shelf.old) (S.given shelf.new) }
 
     // A write failed exactly where the answer is WriteFault, as far as the sink's count can tell.
@@ -37,22 +42,95 @@ pub fn serve<S: Shelf, K: Sink>(alloc: Global, words: &[String], shelf: &mut S, 
 
     // What is written.
     ensures nothing { WritesNothing result → K.written sink.new ≡ K.written sink.old }
-    ensures output { Writes result → IfSome (command_of (map string_bytes words.now)) (λ names. IsRun (S.left shelf.old) (K.written sink.old) (K.written sink.new) names result) }
+    ensures output { Writes result → IfSome (command_of (map string_bytes words.now)) (IsServed (S.left shelf.old) (K.written sink.old) (K.written sink.new) result) }
     ensures possible { result ≢ Status.DriverFailed }
 {
-    let Some(files) = command(words) else {
+    let Some(command) = read_words(words) else {
         return Status::Usage;
     };
-    let scenario = match read_text(alloc, shelf, files.scenario) {
+    match command {
+        Command::Run { scenario, driver } => serve_run(alloc, scenario, driver, shelf, sink),
+        Command::Check { driver } => serve_check(alloc, driver, shelf, sink),
+    }
+}
+
+/// Serves `run`.
+fn serve_run<S: Shelf, K: Sink>(
+    alloc: Global,
+    scenario: &str,
+    driver: &str,
+    shelf: &mut S,
+    sink: &mut K,
+) -> Status
+    requires { driver.now ≡ scenario.now → ⊥ }
+    ensures possible { IsPossible result }
+    ensures read_fault { result ≡ Status.ReadFault → Rose (S.faults shelf.old) (S.faults shelf.new) }
+    ensures reads { result ≢ Status.ReadFault → S.faults shelf.new ≡ S.faults shelf.old }
+    ensures too_long { result ≡ Status.TooLong → IsTooLong (S.left shelf.old) (run_words scenario.now driver.now) }
+    ensures too_much { result ≡ Status.TooLong → RoseBeyond 1048576 (S.given shelf.old) (S.given shelf.new) }
+    ensures write_fault { result ≡ Status.WriteFault → Rose (K.faults sink.old) (K.faults sink.new) }
+    ensures writes { result ≢ Status.WriteFault → K.faults sink.new ≡ K.faults sink.old }
+    ensures nothing { WritesNothing result → K.written sink.new ≡ K.written sink.old }
+    ensures output { Writes result → IsServed (S.left shelf.old) (K.written sink.old) (K.written sink.new) result (run_words scenario.now driver.now) }
+{
+    let plan = match read_text(alloc, shelf, scenario) {
         Ok(text) => text,
         Err(fault) => return fault_status(fault),
     };
-    let driver = match read_text(alloc, shelf, files.driver) {
+    let text = match read_text(alloc, shelf, driver) {
         Ok(text) => text,
         Err(fault) => return fault_status(fault),
     };
-    let status = serve_texts(alloc, scenario.as_slice(), driver.as_slice(), sink);
+    let status = serve_texts(alloc, plan.as_slice(), text.as_slice(), sink);
     status
+}
+
+/// Serves `check`.
+fn serve_check<S: Shelf, K: Sink>(
+    alloc: Global,
+    driver: &str,
+    shelf: &mut S,
+    sink: &mut K,
+) -> Status
+    ensures possible { IsPossible result }
+    ensures read_fault { result ≡ Status.ReadFault → Rose (S.faults shelf.old) (S.faults shelf.new) }
+    ensures reads { result ≢ Status.ReadFault → S.faults shelf.new ≡ S.faults shelf.old }
+    ensures too_long { result ≡ Status.TooLong → IsTooLong (S.left shelf.old) (check_words driver.now) }
+    ensures too_much { result ≡ Status.TooLong → RoseBeyond 1048576 (S.given shelf.old) (S.given shelf.new) }
+    ensures write_fault { result ≡ Status.WriteFault → Rose (K.faults sink.old) (K.faults sink.new) }
+    ensures writes { result ≢ Status.WriteFault → K.faults sink.new ≡ K.faults sink.old }
+    ensures nothing { WritesNothing result → K.written sink.new ≡ K.written sink.old }
+    ensures output { Writes result → IsServed (S.left shelf.old) (K.written sink.old) (K.written sink.new) result (check_words driver.now) }
+{
+    let text = match read_text(alloc, shelf, driver) {
+        Ok(text) => text,
+        Err(fault) => return fault_status(fault),
+    };
+    let status = check_text(alloc, text.as_slice(), sink);
+    status
+}
+
+/// Serves a check whose text is read.
+fn check_text<K: Sink>(alloc: Global, driver: &[u8], sink: &mut K) -> Status
+    ensures possible { IsAfterTexts result }
+    ensures write_fault { result ≡ Status.WriteFault → Rose (K.faults sink.old) (K.faults sink.new) }
+    ensures writes { result ≢ Status.WriteFault → K.faults sink.new ≡ K.faults sink.old }
+    ensures nothing { result ≡ Status.OutOfMemory → K.written sink.new ≡ K.written sink.old }
+    ensures output { Writes result → IsWritten (CheckAnswers driver.now) (K.written sink.old) (K.written sink.new) result }
+{
+    let Ok(read) = thin_text(alloc, driver) else {
+        return Status::OutOfMemory;
+    };
+    let Some(_statements) = read else {
+        return match write_all(sink, b"refused 1 0 later\n") {
+            Ok(()) => Status::Refused,
+            Err(_) => Status::WriteFault,
+        };
+    };
+    match write_all(sink, b"accepted 1\n") {
+        Ok(()) => Status::Done,
+        Err(_) => Status::WriteFault,
+    }
 }
 
 /// Serves a run whose texts are read.
@@ -61,7 +139,7 @@ fn serve_texts<K: Sink>(alloc: Global, scenario: &[u8], driver: &[u8], sink: &mu
     ensures write_fault { result ≡ Status.WriteFault → Rose (K.faults sink.old) (K.faults sink.new) }
     ensures writes { result ≢ Status.WriteFault → K.faults sink.new ≡ K.faults sink.old }
     ensures nothing { result ≡ Status.OutOfMemory → K.written sink.new ≡ K.written sink.old }
-    ensures output { Writes result → IsWritten (K.written sink.old) (K.written sink.new) scenario.now driver.now result }
+    ensures output { Writes result → IsWritten (RunAnswers scenario.now driver.now) (K.written sink.old) (K.written sink.new) result }
 {
     let Ok(read) = thin_text(alloc, driver) else {
         return Status::OutOfMemory;

@@ -11,8 +11,8 @@ returns-in_err-write_number-in-Print-clause-err g c =
 pub returns-in_err-write_number-in-Return-clause-err : goal.returns-in_err-write_number-in-Return-clause-err
 returns-in_err-write_number-in-Return-clause-err g c =
     on-error c.from_residual-in_err-write_number-in-Return.result
-        (IsCut-at _ _ _ c.in_err-write_number-in-Return.ensures.err
-            (told-return _ _ _ _ c.in-Return.number c.loop-statement.invariant.told (rest-at _ _ _ _ c.loop-statement-test.true c.in-Return.is)))
+    (IsCut-at _ _ _ c.in_err-write_number-in-Return.ensures.err
+    (told-return _ _ _ _ c.in-Return.number c.loop-statement.invariant.told (rest-at _ _ _ _ c.loop-statement-test.true c.in-Return.is)))
 
 pub returns-in-Return-clause-ok : goal.returns-in-Return-clause-ok
 returns-in-Return-clause-ok g c =
@@ -24,7 +24,7 @@ loop-statement-preserved g c =
     let kept = c.loop-statement.invariant in
     let rest = rest-at _ _ _ _ c.loop-statement-test.true c.in-Print.is in
     let printed : length (prints (drop c.loop-statement.statement-index c.args.statements.now)) ≡ length (prints (drop (c.loop-statement.statement-index + 1) c.args.statements.now)) + 1 =
-        ap (λ (ss : _). length (prints ss)) rest ∙ omega arith in
+    ap (λ (ss : _). length (prints ss)) rest ∙ omega arith in
     record {
       told = told-print _ _ _ _ _ c.in-Print.number kept.told rest c.in_ok-write_number-in-Print.ensures.ok;
       calm = c.in_ok-write_number-in-Print.ensures.cause.kept ∙ kept.calm;
@@ -35,7 +35,7 @@ loop-statement-preserved g c =
 pub returns-in_err-write_number-clause-err : goal.returns-in_err-write_number-clause-err
 returns-in_err-write_number-clause-err g c =
     on-error c.from_residual-in_err-write_number.result
-        (IsCut-at _ _ _ c.in_err-write_number.ensures.err (told-end _ _ _ [] c.loop-statement.invariant.told (rest-past _ _ c.loop-statement-test.false)))
+    (IsCut-at _ _ _ c.in_err-write_number.ensures.err (told-end _ _ _ [] c.loop-statement.invariant.told (rest-past _ _ c.loop-statement-test.false)))
 
 pub returns-clause-ok : goal.returns-clause-ok
 returns-clause-ok g c =

@@ -18,7 +18,7 @@ item c =
     let first : get_or c.loop-first.rest.now 0 0 ≡ c.in-Some.first.now = search rules in
     let blank : is_blank (get_or c.loop-first.rest.now 0 0) ≡ false = ap is_blank first ∙ sym c.is_blank.ensures ∙ c.if-is_blank.false in
     let split : pieces c.loop-first.rest.now ≡ take c.piece_len.result c.loop-first.rest.now ∷ pieces c.split_at.result.1.now =
-        rw c.split_at.ensures.back (c.piece_len.ensures.splits blank) in
+    rw c.split_at.ensures.back (c.piece_len.ensures.splits blank) in
     IsItem-word _ _ c.piece_len.result _ split (rw c.split_at.ensures.front at c.in-Some-word_of.ensures)
 
 pub loop-first-preserved : goal.loop-first-preserved

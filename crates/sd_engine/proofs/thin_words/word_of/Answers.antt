@@ -10,6 +10,7 @@ returns-in-None c w is = none w is
   where
     at : (k : ℕ) → k < 10 → k < c.loop-word.word-index
     at k h = omega (arith, c.loop-word-test.false)
+
     none : (w : ThinWord) → IsWord c.args.piece.now w → ⊥
     none word.Int is = c.loop-word.invariant 0 (at 0 (lit< tt)) (tt, is.spelled)
     none word.Init is = c.loop-word.invariant 1 (at 1 (lit< tt)) (tt, is.spelled)

@@ -10,3 +10,6 @@ mod rows;
 
 pub use claim::Claim;
 pub use claims::{ClaimRefusal, Claims, Holder};
+
+#[cfg(test)]
+mod tests;

@@ -1,5 +1,5 @@
 -- The blocks that a history grants to an owner.
-use Rattle.std.specs.Prelude.{ℕ, ◌+◌, ◌*◌, ◌/◌, Bool, true, false, cond, ◌&&◌, eqb, ltb, List, [], ◌∷◌, length, ℤ, pos, negsuc, map}
+use Rattle.std.specs.Prelude.{ℕ, ◌+◌, ◌*◌, ◌/◌, Bool, true, false, cond, ◌&&◌, eqb, ltb, List, [], ◌∷◌, length, ℤ, pos, negsuc}
 use Rattle.sd_base.specs.declared.history.BlockState.{BlockState}
 use Rattle.sd_base.specs.declared.history.BlockState.TheVariants.{Image, Live, Freed}
 use Rattle.sd_base.specs.declared.history.Layout.{Layout}
@@ -41,14 +41,19 @@ abbrev pub first_state : Bool → BlockState
 first_state true = Image
 first_state false = Live
 
-abbrev pub with_state : ℕ → BlockState → Block → Block
-with_state base state b = cond (eqb b.base base) (record b { state = state }) b
+abbrev pub has_base : ℕ → Block → Bool
+has_base base b = eqb b.base base
+
+-- the blocks, where the one of this base is used for something else now
+abbrev pub with_state : ℕ → BlockState → List Block → List Block
+with_state base state [] = []
+with_state base state (b ∷ bs) = cond (has_base base b) (record b { state = state } ∷ bs) (b ∷ with_state base state bs)
 
 -- an owner's blocks after one more update of it
 abbrev pub blocks_after : Update → List Block → List Block
 blocks_after (Grant layout n image) bs =
     record { base = next_base bs; layout = layout; count = count_of n; state = first_state image } ∷ bs
-blocks_after (Free base) bs = map (with_state base Freed) bs
+blocks_after (Free base) bs = with_state base Freed bs
 blocks_after _ bs = bs
 
 -- the blocks that these entries grant to an owner, the newest first. Nothing takes one away: what was given back stays granted
@@ -65,9 +70,6 @@ abbrev pub is_freed : BlockState → Bool
 is_freed Image = false
 is_freed Live = false
 is_freed Freed = true
-
-abbrev pub has_base : ℕ → Block → Bool
-has_base base b = eqb b.base base
 
 -- one more block of n elements fits: there is an element, the owner has fewer than 4,096 blocks, and the block ends within the arena
 abbrev pub has_room : List Block → Layout → ℤ → Bool

@@ -1,8 +1,8 @@
 //! The counter of steps that the tables raise as they take rows away.
-ghost use Rattle.std.specs.Prelude.{◌≡◌, ◌+◌};
+ghost use Rattle.std.specs.Prelude.{◌≡◌, ◌+◌, ◌<◌};
 
 use std::marker::Model;
-use std::sync::ledger::{Book, Ledger, Share};
+use std::sync::ledger::{Blank, Book, Ledger, Share};
 
 /// How many steps were taken. It has no bytes, and only `tick` changes it.
 ///
@@ -24,6 +24,17 @@ impl<L: Ledger> Model for Steps<L> {
 }
 
 impl<L: Ledger> Steps<L> {
+    /// A counter at 0, over a ledger that nothing else counts in and that is cut into parts.
+    pub fn start(blank: Blank) -> Steps<L>
+        requires name { blank.name ≡ L.name }
+        requires parts { blank.parts ≡ L.parts }
+        requires some { 0 < L.parts }
+        ensures { result ≡ 0 }
+    {
+        let (book, share) = blank.open();
+        Steps { book, share }
+    }
+
     /// Counts one step.
     pub fn tick(&mut self)
         ensures { self.new ≡ self.old + 1 }

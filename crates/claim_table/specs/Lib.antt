@@ -1,0 +1,4 @@
+pub mod Ordered
+pub mod ClaimRows
+pub mod ClaimCalls
+pub mod ClaimPart

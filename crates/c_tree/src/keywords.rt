@@ -1,0 +1,52 @@
+//! `Keyword`: the reserved words of the profile.
+
+/// The reserved words: those of C99 (6.4.1) that the profile keeps, and its own.
+///
+/// The last nineteen are read by no rule of the base form. They are reserved so that no name can
+/// be spelled as they are.
+#[derive(Clone, Copy, PartialEq, Eq, Debug)]
+pub enum Keyword {
+    Int,
+    Unsigned,
+    Signed,
+    Char,
+    Short,
+    Long,
+    Void,
+    Struct,
+    Union,
+    Static,
+    If,
+    Else,
+    While,
+    Return,
+    Sizeof,
+    Safe,
+    Count,
+    Bound,
+    Sentinel,
+    Nullterm,
+    When,
+    Zero,
+    Kalloc,
+    Kfree,
+    For,
+    Switch,
+    Case,
+    Default,
+    Break,
+    Do,
+    Goto,
+    Continue,
+    Typedef,
+    Enum,
+    Const,
+    Volatile,
+    Extern,
+    Inline,
+    Float,
+    Double,
+    Register,
+    Auto,
+    Restrict,
+}

@@ -6,12 +6,10 @@
 
 mod keywords;
 mod limits;
-mod name;
 mod signs;
 mod words;
 
 pub use keywords::Keyword;
 pub use limits::LimitKind;
-pub use name::Name;
 pub use signs::Sign;
 pub use words::{Suffix, Token, Word};

@@ -1,6 +1,7 @@
 //! `Word`, the words of a driver text, and `Token`, a word with its line.
 
-use crate::{Keyword, Name, Sign};
+use crate::{Keyword, Sign};
+use sd_base::Name;
 
 /// What stands after the digits of a number: at most one of `u U` and one of `l L`, in either order
 /// (C99, 6.4.4.1).

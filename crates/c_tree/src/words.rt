@@ -2,6 +2,7 @@
 
 use crate::{Keyword, Sign};
 use sd_base::Name;
+use sqlite_items::Items;
 
 /// What stands after the digits of a number: at most one of `u U` and one of `l L`, in either order
 /// (C99, 6.4.4.1).
@@ -30,7 +31,7 @@ pub enum Word {
     Character(u8),
     /// A string by the bytes that it stands for, without the 0 at their end, and its number among
     /// the strings of the text, counted from 0.
-    String(Vec<u8>, u32),
+    String(Items<u8>, u32),
     /// A sign.
     Sign(Sign),
 }

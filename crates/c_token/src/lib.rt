@@ -1,13 +1,14 @@
-// A library with one function.
+//! The words of the C profile: a text divided into gaps and longest words, or where that fails.
 #![tactic(auto)]
 
-ghost use Rattle.std.specs.Prelude.{◌≡◌};
-ghost use Rattle.c_token.specs.Echo.{echo_of};
+mod bytes;
+mod gaps;
+mod lexemes;
+mod names;
+mod numbers;
+mod quotes;
+mod refusal;
+mod reserved;
+mod signs;
 
-// The `ensures` clause is the contract: what `echo` returns is `echo_of` of its argument, a definition
-// in `specs/Echo.antt`, which a caller's clause can cite too.
-pub fn echo(x: usize) -> usize
-    ensures { result ≡ echo_of x }
-{
-    x
-}
+pub use refusal::ReadRefusal;

@@ -75,7 +75,7 @@ keyword_among [] t = None
 keyword_among (k ∷ ks) t = cond (same_text (spelled_keyword k) t) (Some k) (keyword_among ks t)
 
 -- The reserved word that is spelled so, if there is one.
-abbrev pub reserved : Text → Option Keyword
+unfoldable pub reserved : Text → Option Keyword
 reserved t = keyword_among keywords t
 
 -- The word that a name's spelling stands for: a reserved word, or the name.

@@ -34,6 +34,13 @@ is_l c = c == 108 || c == 76
 abbrev pub is_x : ℕ → Bool
 is_x c = c == 120 || c == 88
 
+-- `0`, and `1` to `9`.
+abbrev pub is_zero : ℕ → Bool
+is_zero c = c == 48
+
+abbrev pub is_nonzero : ℕ → Bool
+is_nonzero c = nat_le 49 c && nat_le c 57
+
 -- A suffix has at most one of `u U` and one of `l L`, in either order.
 abbrev pub suffix_of : Text → Option Suffix
 suffix_of [] = Some suffix.Plain
@@ -60,6 +67,6 @@ decimal_end suffix.UnsignedLong = 2 ^ 32
 
 -- The text is a number of the value n with the suffix x. `0` is octal, as in C99.
 pub data IsNumber : Text → ℕ → Suffix → Type 0 where
-  decimal : {b : Text} {n : ℕ} {x : Suffix} → first_is (λ c. nat_le 49 c && nat_le c 57) b ≡ true → HasDigits 10 b n x → n < decimal_end x → IsNumber b n x
-  octal : {b : Text} {n : ℕ} {x : Suffix} → first_is (λ c. c == 48) b ≡ true → HasDigits 8 b n x → n < 2 ^ 32 → IsNumber b n x
+  decimal : {b : Text} {n : ℕ} {x : Suffix} → first_is is_nonzero b ≡ true → HasDigits 10 b n x → n < decimal_end x → IsNumber b n x
+  octal : {b : Text} {n : ℕ} {x : Suffix} → first_is is_zero b ≡ true → HasDigits 8 b n x → n < 2 ^ 32 → IsNumber b n x
   hexadecimal : {b : Text} {n : ℕ} {x : Suffix} (c : ℕ) (t : Text) → b ≡ 48 ∷ c ∷ t → is_x c ≡ true → HasDigits 16 t n x → n < 2 ^ 32 → IsNumber b n x

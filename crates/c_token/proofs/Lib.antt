@@ -1,0 +1,4 @@
+pub mod GapLaws
+pub mod NumberLaws
+pub mod ReservedWords
+pub mod Tests

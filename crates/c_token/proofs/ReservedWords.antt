@@ -25,9 +25,9 @@ keyword_among-spelled : (ks : List Keyword) (t : Text) (k : Keyword) → keyword
 keyword_among-spelled [] t k h = cc
 keyword_among-spelled (j ∷ ks) t k h =
     ⊎_elim (λ (g : (same_text (spelled_keyword j) t ≡ true) × (Some j ≡ Some k)).
-        let e = same_text-true (spelled_keyword j) t g.0 in let i : j ≡ k = cc (g.1) in cc)
-      (λ (g : (same_text (spelled_keyword j) t ≡ false) × (keyword_among ks t ≡ Some k)). keyword_among-spelled ks t k g.1)
-      (chosen (same_text (spelled_keyword j) t) (Some j) (keyword_among ks t) (Some k) h)
+    let e = same_text-true (spelled_keyword j) t g.0 in let i : j ≡ k = cc (g.1) in cc)
+    (λ (g : (same_text (spelled_keyword j) t ≡ false) × (keyword_among ks t ≡ Some k)). keyword_among-spelled ks t k g.1)
+    (chosen (same_text (spelled_keyword j) t) (Some j) (keyword_among ks t) (Some k) h)
 
 -- what is reserved is spelled as its word
 pub spelled-reserved : (t : Text) (k : Keyword) → reserved t ≡ Some k → t ≡ spelled_keyword k
@@ -38,5 +38,5 @@ spelled-reserved t k h = keyword_among-spelled keywords t k h
 pub reserved-none : (t : Text) → ((k : Keyword) → t ≡ spelled_keyword k → ⊥) → None ≡ reserved t
 reserved-none t none =
     ⊎_elim (λ (g : reserved t ≡ None). sym g)
-      (λ (g : (k : Keyword) × (reserved t ≡ Some k)). absurd (none g.0 (spelled-reserved t g.0 g.1)))
-      (option_cases (reserved t))
+    (λ (g : (k : Keyword) × (reserved t ≡ Some k)). absurd (none g.0 (spelled-reserved t g.0 g.1)))
+    (option_cases (reserved t))

@@ -31,3 +31,17 @@ same_text-true (c ∷ t) [] h = cc
 same_text-true (c ∷ t) (d ∷ u) h =
     let p = both (eqb c d) (same_text t u) h in
     ap₂ (λ x y. x ∷ y) (eqb-true c d p.0) (same_text-true t u p.1)
+
+-- both sides hold, so `&&` does
+pub and_true : (a b : Bool) → a ≡ true → b ≡ true → (a && b) ≡ true
+and_true true b h g = g
+and_true false b h g = cc
+
+-- choices whose tests are known
+pub not_taken : {A : Type 0} (b : Bool) (x y : A) → b ≡ false → cond b x y ≡ y
+not_taken true x y h = cc
+not_taken false x y h = refl
+
+pub taken : {A : Type 0} (b : Bool) (x y : A) → b ≡ true → cond b x y ≡ x
+taken true x y h = refl
+taken false x y h = cc

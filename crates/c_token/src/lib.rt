@@ -2,6 +2,7 @@
 #![tactic(auto)]
 
 mod bytes;
+mod counts;
 mod gaps;
 mod lexemes;
 mod names;
@@ -10,5 +11,11 @@ mod quotes;
 mod refusal;
 mod reserved;
 mod signs;
+mod tokenizer;
+mod words;
 
 pub use refusal::ReadRefusal;
+pub use tokenizer::{one_division, tokens};
+
+#[cfg(test)]
+mod tests;

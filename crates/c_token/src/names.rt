@@ -11,7 +11,8 @@ use c_tree::Keyword;
 
 /// How many bytes that a name goes on with stand first in a text.
 pub fn name_length(text: &[u8]) -> usize
-    ensures { result ≡ front_length is_name_byte 0 text.now }
+    ensures front { result ≡ front_length is_name_byte 0 text.now }
+    ensures within { result ≤ length text.now }
 {
     let mut rest = text;
     let mut length = 0;

@@ -1,12 +1,9 @@
 //! Numbers: digits of a radix, a suffix, and the values that a number may have.
 ghost use Rattle.std.specs.Prelude.{◌≡◌, ℕ, ◌^◌, ◌<◌, ◌≤◌, Bool, true, false, IfSome, None};
-
 ghost use Rattle.std.specs.Option.{option_map};
 ghost use Rattle.c_tree.specs.declared.words.Suffix.{Suffix};
 ghost use Rattle.c_tree.specs.Bytes.{first_is};
-
 ghost use Rattle.c_tree.specs.Numbers.{is_hexadecimal, is_digit_of, digit_value, suffix_of, is_u, is_l, is_zero, is_nonzero, decimal_end, HasDigits, IsNumber};
-
 ghost use Rattle.c_token.specs.Scans.{rest_of, scanned_value, after_prefix};
 
 use crate::bytes::is_digit;

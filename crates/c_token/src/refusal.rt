@@ -2,7 +2,7 @@
 ghost use Rattle.std.specs.Prelude.{◌≡◌};
 
 use c_tree::LimitKind;
-use std::alloc::AllocError;
+use std::alloc::{AllocError, AllocFailed};
 
 /// Why a driver text is not read, with the line or the place where. Lines count from 1.
 #[derive(Clone, Copy, PartialEq, Eq, Debug, Drop)]
@@ -26,6 +26,17 @@ impl From<AllocError> for ReadRefusal {
     ghost from_gives = { λ _ refusal. refusal ≡ Memory };
 
     fn from(_: AllocError) -> ReadRefusal {
+        ReadRefusal::Memory
+    }
+}
+
+impl<T: Drop> From<AllocFailed<T>> for ReadRefusal {
+    ghost use Rattle.std.specs.Prelude.{◌≡◌};
+    ghost use Rattle.c_token.specs.declared.refusal.ReadRefusal.TheVariants.{Memory};
+
+    ghost from_gives = { λ _ refusal. refusal ≡ Memory };
+
+    fn from(_: AllocFailed<T>) -> ReadRefusal {
         ReadRefusal::Memory
     }
 }

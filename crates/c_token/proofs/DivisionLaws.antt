@@ -15,7 +15,7 @@ use Rattle.c_tree.specs.Names.{is_name}
 use Rattle.c_tree.specs.Signs.{spelled_sign}
 use Rattle.c_tree.specs.Words.{WordAt, a_name, a_number, a_character, a_string, a_sign, Longest}
 use Rattle.c_token.proofs.NumberLaws.{IsNumber-first}
-use Rattle.c_token.proofs.Tests.{both}
+use Rattle.c_token.proofs.Choices.{both}
 use Rattle.c_token.proofs.WordLaws.{no_word_at_end}
 
 -- the first bytes of gaps that are no comments

@@ -1,4 +1,5 @@
 pub mod AnswerLaws
+pub mod Choices
 pub mod DivisionLaws
 pub mod GapLaws
 pub mod LoopLaws
@@ -7,5 +8,4 @@ pub mod Pieces
 pub mod QuoteLaws
 pub mod ReservedWords
 pub mod SignLaws
-pub mod Tests
 pub mod WordLaws

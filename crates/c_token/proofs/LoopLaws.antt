@@ -20,7 +20,7 @@ use Rattle.c_token.specs.declared.lexemes.Kind.{Kind}
 use Rattle.c_token.specs.Feeds.{line_feeds}
 use Rattle.c_token.specs.Lexemes.{word_of, IsLongest, BeginsNoWord}
 use Rattle.c_token.proofs.NumberLaws.{IsNumber-first}
-use Rattle.c_token.proofs.Tests.{chosen}
+use Rattle.c_token.proofs.Choices.{chosen}
 
 -- the counts behind one more word
 pub run_of-push : (ws : List Token) (k : Word) (n : ℕ) → run_of (ws ++ token k n ∷ []) ≡ run_after (run_of ws) k

@@ -10,7 +10,7 @@ use Rattle.c_tree.specs.Numbers.{is_hexadecimal, digit_value, is_digit_of, value
 use Rattle.c_token.specs.Numbers.{IsCapped, FoundDigits}
 use Rattle.c_token.specs.Scans.{front_of, rest_of, grown, scanned_value, after_prefix}
 use Rattle.c_token.proofs.Pieces.{front-rest, all-front, first-rest, rest_of-append, front_of-append}
-use Rattle.c_token.proofs.Tests.{chosen, both, and_true}
+use Rattle.c_token.proofs.Choices.{chosen, both, and_true}
 
 -- what a suffix begins with is no digit
 no_digit : (c : ℕ) → (is_u c || is_l c) ≡ true → is_hexadecimal c ≡ false

@@ -4,7 +4,7 @@ use Rattle.std.specs.List.{list_all}
 use Rattle.std.proofs.Math.Seq.{take-append_seam, drop-append_seam, take-length}
 use Rattle.c_tree.specs.Bytes.{Text, first_is}
 use Rattle.c_token.specs.Scans.{front_of, rest_of, front_length}
-use Rattle.c_token.proofs.Tests.{both}
+use Rattle.c_token.proofs.Choices.{both}
 
 -- a text is its front and its rest
 pub front-rest : (p : ℕ → Bool) (t : Text) → t ≡ front_of p t ++ rest_of p t

@@ -5,7 +5,7 @@ use Rattle.c_tree.specs.Bytes.{Text, is_digit, first_is}
 use Rattle.c_tree.specs.Characters.{is_plain, is_escape, escaped, is_quotable, meaning}
 use Rattle.c_token.specs.Scans.{quoted_length, is_end, meaning_after, one_meant}
 use Rattle.c_token.proofs.Pieces.{same_cut}
-use Rattle.c_token.proofs.Tests.{chosen, both, and_true, taken, not_taken}
+use Rattle.c_token.proofs.Choices.{chosen, both, and_true, taken, not_taken}
 
 -- what is used of a quote
 pub record IsQuote (q : ℕ) : Type 0 where

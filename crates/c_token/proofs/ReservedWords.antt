@@ -5,7 +5,7 @@ use Rattle.c_tree.specs.declared.keywords.Keyword.TheVariants as keyword
 use Rattle.c_tree.specs.Bytes.{Text}
 use Rattle.c_tree.specs.Names.{spelled_keyword, same_text, keyword_among, keywords, reserved}
 use Rattle.c_token.specs.Reserved.{slot_of, entry_of}
-use Rattle.c_token.proofs.Tests.{option_cases, chosen, same_text-true}
+use Rattle.c_token.proofs.Choices.{option_cases, chosen, same_text-true}
 
 pub entry-spelled : (k : Keyword) → entry_of (slot_of (spelled_keyword k)) ≡ Some k
 unfolding entry_of slot_of

@@ -6,7 +6,7 @@ use Rattle.c_tree.specs.Bytes.{Text}
 use Rattle.c_tree.specs.Signs.{spelled_sign}
 use Rattle.c_token.specs.Order.{sign_order}
 use Rattle.c_token.specs.Scans.{stripped, FoundSign, found_sign, found_if, first_sign}
-use Rattle.c_token.proofs.Tests.{chosen, option_cases}
+use Rattle.c_token.proofs.Choices.{chosen, option_cases}
 
 -- a text without a piece in front
 pub stripped-is : (p t v : Text) → stripped p t ≡ Some v → t ≡ p ++ v

@@ -25,7 +25,7 @@ use Rattle.c_token.proofs.NumberLaws.{IsNumber-unique, IsNumber-first, IsNumber-
 use Rattle.c_token.proofs.Pieces.{front-rest, all-front, first-rest, front_of-append, rest_of-append, front_length-front, rest_or_all, front_of-piece, rest_of-piece, cut_front, cut_rest, cut_behind}
 use Rattle.c_token.proofs.QuoteLaws.{single, double, quoted_length-sound, quoted-unique, quoted_length-none, one_meant-sound, one_meant-complete, meaning_after-false}
 use Rattle.c_token.proofs.SignLaws.{first_sign-is, first_sign-finds, sign_order-own}
-use Rattle.c_token.proofs.Tests.{both, and_true}
+use Rattle.c_token.proofs.Choices.{both, and_true}
 
 -- what a word begins with
 abbrev pub lead_of : Word → Lead

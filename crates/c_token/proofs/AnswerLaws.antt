@@ -1,5 +1,5 @@
 -- From what an answer says to when it comes: of one text, one thing is so.
-use Rattle.std.proofs.Common.{◌≡◌, ℕ, List, Result, Ok, Err, Vec, Global, IfOk, IfErr, ◌⊎◌, inl, inr, refl, sym, ap, ◌∙◌}
+use Rattle.std.proofs.Common.{◌≡◌, ℕ, List, Result, Ok, Err, Vec, Global, IfOk, IfErr, inl, inr, refl, ap, ◌∙◌}
 use Rattle.c_tree.specs.declared.limits.LimitKind.{LimitKind}
 use Rattle.c_tree.specs.declared.words.Token.{Token}
 use Rattle.c_tree.specs.Bytes.{Text}

@@ -1,5 +1,5 @@
 -- What tests that came out one way tell.
-use Rattle.std.proofs.Common.{◌≡◌, ℕ, Bool, true, false, cond, ◌&&◌, ◌||◌, eqb, List, [], ◌∷◌, Option, Some, None, ◌⊎◌, inl, inr, refl, ap, ◌∙◌, sym, eqb-true, ap₂}
+use Rattle.std.proofs.Common.{◌≡◌, Bool, true, false, cond, ◌&&◌, ◌||◌, eqb, [], ◌∷◌, Option, Some, None, ◌⊎◌, inl, inr, refl, eqb-true, ap₂}
 use Rattle.c_tree.specs.Bytes.{Text}
 use Rattle.c_tree.specs.Names.{same_text}
 

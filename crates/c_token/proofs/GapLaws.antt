@@ -1,5 +1,5 @@
 -- Comments that do not end.
-use Rattle.std.proofs.Common.{◌≡◌, ℕ, ◌<◌, Bool, List, [], ◌∷◌, length, None, refl, sym, arith}
+use Rattle.std.proofs.Common.{◌≡◌, ℕ, ◌<◌, Bool, [], ◌∷◌, length, None, refl, arith}
 use Rattle.c_tree.specs.Bytes.{Text}
 use Rattle.c_tree.specs.Gaps.{after_block}
 

@@ -1,5 +1,5 @@
 -- What one word more changes: the counts, and what is left of the text.
-use Rattle.std.proofs.Common.{◌≡◌, ℕ, suc, ◌+◌, ◌-◌, ◌<◌, ◌≤◌, Bool, true, false, cond, ◌&&◌, eqb, leb, ltb, List, [], ◌∷◌, ◌++◌, length, Option, Some, None, ◌⊎◌, ⊎_elim, refl, sym, ap, ◌∙◌, subst, arith, lit<, length-append, append_assoc, count_by, fold}
+use Rattle.std.proofs.Common.{◌≡◌, ℕ, ◌+◌, ◌-◌, ◌<◌, ◌≤◌, Bool, true, false, cond, ◌&&◌, eqb, leb, ltb, List, [], ◌∷◌, ◌++◌, length, Option, Some, None, refl, sym, ap, ◌∙◌, subst, arith, lit<, length-append, append_assoc, count_by, fold}
 use Rattle.std.proofs.lemmas.Bool.Decides.{nat_tests}
 use Rattle.std.proofs.lemmas.List.Sums.{fold-append}
 use Rattle.c_tree.specs.declared.limits.LimitKind.{LimitKind}
@@ -10,7 +10,7 @@ use Rattle.c_tree.specs.declared.words.Token.{Token}
 use Rattle.c_tree.specs.declared.words.Word.{Word}
 use Rattle.c_tree.specs.declared.words.Word.TheVariants as word
 use Rattle.c_tree.specs.Bytes.{Text, is_digit, first_is}
-use Rattle.c_tree.specs.Division.{place, token, Reaches, goes, takes_word, IsStuck, HasNoWord, PassesLimit}
+use Rattle.c_tree.specs.Division.{place, token, Reaches, goes, takes_word, HasNoWord, PassesLimit}
 use Rattle.c_tree.specs.Gaps.{after_gap}
 use Rattle.c_tree.specs.Limits.{is_sign, ends_run, is_opening, is_closing, is_unary, run_after, run_of, nesting_after, nesting_of, unary_after, unary_of, strings_after, strings_of, name_length, passed_at, passed}
 use Rattle.c_tree.specs.Names.{is_name}
@@ -20,7 +20,6 @@ use Rattle.c_token.specs.declared.lexemes.Kind.{Kind}
 use Rattle.c_token.specs.Feeds.{line_feeds}
 use Rattle.c_token.specs.Lexemes.{word_of, IsLongest, BeginsNoWord}
 use Rattle.c_token.proofs.NumberLaws.{IsNumber-first}
-use Rattle.c_token.proofs.Choices.{chosen}
 
 -- the counts behind one more word
 pub run_of-push : (ws : List Token) (k : Word) (n : ℕ) → run_of (ws ++ token k n ∷ []) ≡ run_after (run_of ws) k

@@ -1,5 +1,5 @@
 -- Digits, suffixes and numbers: what the scan gives, and that a text is one number at most.
-use Rattle.std.proofs.Common.{◌≡◌, ℕ, zero, suc, ◌+◌, ◌-◌, ◌*◌, ◌^◌, ◌<◌, ◌≤◌, Bool, true, false, cond, ◌&&◌, ◌||◌, eqb, leb, ltb, List, [], ◌∷◌, ◌++◌, length, Option, Some, None, ◌⊎◌, inl, inr, ⊎_elim, refl, sym, ap, ◌∙◌, subst, arith, ap₂, length-append, mul-le-mul_left, eqb-true}
+use Rattle.std.proofs.Common.{◌≡◌, ℕ, ◌+◌, ◌*◌, ◌^◌, ◌<◌, ◌≤◌, Bool, true, false, cond, ◌&&◌, ◌||◌, eqb, ltb, [], ◌∷◌, ◌++◌, length, Option, Some, None, ◌⊎◌, ⊎_elim, refl, sym, ap, ◌∙◌, subst, arith, length-append, mul-le-mul_left, eqb-true}
 use Rattle.std.specs.Prelude.{IfSome}
 use Rattle.std.specs.List.{list_all}
 use Rattle.std.proofs.lemmas.Bool.Decides.{nat_tests}
@@ -7,7 +7,7 @@ use Rattle.c_tree.specs.declared.words.Suffix.{Suffix}
 use Rattle.c_tree.specs.declared.words.Suffix.TheVariants as suffix
 use Rattle.c_tree.specs.Bytes.{Text, is_digit, is_name_byte, first_is}
 use Rattle.c_tree.specs.Numbers.{is_hexadecimal, digit_value, is_digit_of, value_after, is_u, is_l, is_x, suffix_of, is_zero, is_nonzero, HasDigits, decimal_end, IsNumber, decimal, octal, hexadecimal}
-use Rattle.c_token.specs.Numbers.{IsCapped, FoundDigits}
+use Rattle.c_token.specs.Numbers.{IsCapped}
 use Rattle.c_token.specs.Scans.{front_of, rest_of, grown, scanned_value, after_prefix}
 use Rattle.c_token.proofs.Pieces.{front-rest, all-front, first-rest, rest_of-append, front_of-append}
 use Rattle.c_token.proofs.Choices.{chosen, both, and_true}

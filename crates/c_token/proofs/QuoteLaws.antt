@@ -1,9 +1,9 @@
 -- What stands before the quote that closes, and what it means.
-use Rattle.std.proofs.Common.{◌≡◌, ℕ, zero, suc, ◌+◌, ◌-◌, ◌<◌, ◌≤◌, Bool, true, false, cond, not, ◌&&◌, ◌||◌, eqb, leb, List, [], ◌∷◌, ◌++◌, length, Option, Some, None, ◌⊎◌, inl, inr, ⊎_elim, refl, sym, ap, ◌∙◌, subst, arith, eqb-true, add-zero}
+use Rattle.std.proofs.Common.{◌≡◌, ℕ, ◌+◌, Bool, true, false, cond, ◌&&◌, eqb, [], ◌∷◌, ◌++◌, length, Option, Some, None, ⊎_elim, refl, sym, ap, ◌∙◌, arith, eqb-true, add-zero}
 use Rattle.std.proofs.lemmas.Bool.Decides.{nat_tests}
-use Rattle.c_tree.specs.Bytes.{Text, is_digit, first_is}
+use Rattle.c_tree.specs.Bytes.{Text, is_digit}
 use Rattle.c_tree.specs.Characters.{is_plain, is_escape, escaped, is_quotable, meaning}
-use Rattle.c_token.specs.Scans.{quoted_length, is_end, meaning_after, one_meant}
+use Rattle.c_token.specs.Scans.{quoted_length, meaning_after, one_meant}
 use Rattle.c_token.proofs.Pieces.{same_cut}
 use Rattle.c_token.proofs.Choices.{chosen, both, and_true, taken, not_taken}
 

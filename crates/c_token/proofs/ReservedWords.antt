@@ -1,5 +1,5 @@
 -- The table of reserved words has each in its slot.
-use Rattle.std.proofs.Common.{◌≡◌, ℕ, ◌+◌, ◌-◌, ◌*◌, ◌%◌, ◌≤◌, Bool, true, false, cond, List, [], ◌∷◌, length, get_or, Option, Some, None, ◌⊎◌, ⊎_elim, refl, sym, lit≤}
+use Rattle.std.proofs.Common.{◌≡◌, ◌≤◌, true, false, List, [], ◌∷◌, length, Some, None, ⊎_elim, refl, sym, lit≤}
 use Rattle.c_tree.specs.declared.keywords.Keyword.{Keyword}
 use Rattle.c_tree.specs.declared.keywords.Keyword.TheVariants as keyword
 use Rattle.c_tree.specs.Bytes.{Text}

@@ -1,5 +1,5 @@
 -- What the refusals of a text say of it.
-use Rattle.std.specs.Prelude.{◌≡◌, ℕ, ◌⊎◌, Result, Ok, Err}
+use Rattle.std.specs.Prelude.{◌≡◌, ◌⊎◌, Result, Err}
 use Rattle.c_tree.specs.Bytes.{Text}
 use Rattle.c_tree.specs.Division.{HasNoWord, PassesLimit}
 use Rattle.c_token.specs.declared.refusal.ReadRefusal.{ReadRefusal}

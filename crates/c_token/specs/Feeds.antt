@@ -1,5 +1,5 @@
 -- The line feeds that are left in a text bound the lines to come.
-use Rattle.std.specs.Prelude.{ℕ, ◌+◌, cond, List, [], ◌∷◌, ◌==◌}
+use Rattle.std.specs.Prelude.{ℕ, ◌+◌, cond, [], ◌∷◌, ◌==◌}
 use Rattle.c_tree.specs.Bytes.{Text}
 
 -- How many line feeds a text has.

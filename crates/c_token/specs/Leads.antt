@@ -1,5 +1,5 @@
 -- What kind of word a first byte may begin.
-use Rattle.std.specs.Prelude.{ℕ, Bool, cond, List, [], ◌∷◌, ◌==◌}
+use Rattle.std.specs.Prelude.{ℕ, cond, [], ◌∷◌, ◌==◌}
 use Rattle.c_tree.specs.Bytes.{Text, is_letter, is_digit}
 
 -- A name, a number, a character, a string, or none of them.

@@ -1,5 +1,5 @@
 -- The word that a kind and a spelling make.
-use Rattle.std.specs.Prelude.{◌≡◌, ℕ, List}
+use Rattle.std.specs.Prelude.{ℕ}
 use Rattle.c_tree.specs.declared.words.Word.{Word}
 use Rattle.c_tree.specs.declared.words.Word.TheVariants as word
 use Rattle.c_tree.specs.Bytes.{Text}

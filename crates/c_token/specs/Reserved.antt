@@ -1,5 +1,5 @@
 -- The table of reserved words: a word's slot, and what a slot has.
-use Rattle.std.specs.Prelude.{ℕ, ◌+◌, ◌-◌, ◌*◌, ◌%◌, List, length, slice_index, slice_index_or, Option, Some, None}
+use Rattle.std.specs.Prelude.{ℕ, ◌+◌, ◌-◌, ◌*◌, ◌%◌, length, slice_index, slice_index_or, Option, None}
 use Rattle.c_tree.specs.declared.keywords.Keyword.{Keyword}
 use Rattle.c_tree.specs.Bytes.{Text}
 use Rattle.c_token.specs.declared.reserved.TheConstants.{RESERVED}

@@ -1,17 +1,14 @@
 -- The definitions of words, worked on small texts.
-use Rattle.std.proofs.Common.{◌≡◌, ℕ, Bool, true, false, List, [], ◌∷◌, Option, Some, None, codes, refl}
-use Rattle.c_tree.specs.declared.keywords.Keyword.{Keyword}
+use Rattle.std.proofs.Common.{◌≡◌, true, false, List, [], ◌∷◌, Some, None, codes, refl}
 use Rattle.c_tree.specs.declared.keywords.Keyword.TheVariants as keyword
-use Rattle.c_tree.specs.declared.limits.LimitKind.{LimitKind}
 use Rattle.c_tree.specs.declared.limits.LimitKind.TheVariants as limit
 use Rattle.c_tree.specs.declared.signs.Sign.TheVariants as sign
-use Rattle.c_tree.specs.declared.words.Suffix.{Suffix}
 use Rattle.c_tree.specs.declared.words.Suffix.TheVariants as suffix
 use Rattle.c_tree.specs.declared.words.Token.{Token}
 use Rattle.c_tree.specs.declared.words.Word.TheVariants as word
 use Rattle.c_tree.specs.Characters.{is_quotable, meaning}
 use Rattle.c_tree.specs.Division.{token}
-use Rattle.c_tree.specs.Gaps.{Gap, gap, after_gap}
+use Rattle.c_tree.specs.Gaps.{gap, after_gap}
 use Rattle.c_tree.specs.Limits.{passed_at, run_of, nesting_of, unary_of, strings_of}
 use Rattle.c_tree.specs.Names.{is_name, reserved}
 use Rattle.c_tree.specs.Numbers.{suffix_of, value_after}

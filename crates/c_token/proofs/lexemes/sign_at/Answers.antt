@@ -1,5 +1,4 @@
-use Rattle.std.proofs.Common.{sym, refl, ap}
-use Rattle.c_tree.specs.Gaps.{opens_block, opens_line}
+use Rattle.std.proofs.Common.{sym, refl}
 use Rattle.c_token.proofs.WordLaws.{sign_found, sign_none, sign_comment}
 use Rattle.c_token.proofs.lexemes.sign_at.Goals as goal
 

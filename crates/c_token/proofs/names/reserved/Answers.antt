@@ -1,5 +1,4 @@
-use Rattle.std.proofs.Common.{◌≡◌, ℕ, length, Option, Some, None, refl, sym, ap, ◌∙◌, subst, arith}
-use Rattle.c_tree.specs.declared.keywords.Keyword.{Keyword}
+use Rattle.std.proofs.Common.{◌≡◌, length, Some, refl, sym, ap, ◌∙◌, subst, arith}
 use Rattle.c_tree.specs.Names.{spelled_keyword}
 use Rattle.c_token.specs.Reserved.{slot_of, entry_of}
 use Rattle.c_token.proofs.ReservedWords.{entry-spelled, length-spelled, reserved-none, reserved-spelled}

@@ -1,4 +1,4 @@
-use Rattle.std.proofs.Common.{refl, arith}
+use Rattle.std.proofs.Common.{refl}
 use Rattle.c_token.specs.Reserved.{slot_of}
 use Rattle.c_token.proofs.names.slot.Goals as goal
 

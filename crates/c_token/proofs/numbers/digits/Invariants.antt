@@ -1,4 +1,4 @@
-use Rattle.std.proofs.Common.{◌≡◌, ◌^◌, ◌*◌, ◌<◌, length}
+use Rattle.std.proofs.Common.{◌≡◌, ◌^◌, ◌<◌, length}
 use Rattle.c_tree.specs.Numbers.{is_digit_of}
 use Rattle.c_token.specs.Scans.{rest_of, scanned_value}
 use Rattle.c_token.proofs.numbers.digits.Given as goal

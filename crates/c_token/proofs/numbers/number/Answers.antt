@@ -1,5 +1,5 @@
-use Rattle.std.proofs.Common.{◌≡◌, true, false, sym}
-use Rattle.c_token.proofs.NumberLaws.{hexadecimal_found, hexadecimal_none, octal_found, octal_none, decimal_found, decimal_none, other_none}
+use Rattle.std.proofs.Common.{sym}
+use Rattle.c_token.proofs.NumberLaws.{hexadecimal_found, hexadecimal_none, octal_found, octal_none, decimal_found, decimal_none}
 use Rattle.c_token.proofs.numbers.number.Goals as goal
 
 pub returns-in-Some-clause-found : goal.returns-in-Some-clause-found

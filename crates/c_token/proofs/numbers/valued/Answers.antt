@@ -1,6 +1,6 @@
-use Rattle.std.proofs.Common.{◌≡◌, ℕ, ◌^◌, ◌<◌, ◌≤◌, length, Some, None, refl, sym, ap, ◌∙◌, subst, arith}
+use Rattle.std.proofs.Common.{◌^◌, ◌<◌, ◌≤◌, length, sym, ap, ◌∙◌, subst, arith}
 use Rattle.c_tree.specs.Numbers.{is_digit_of, HasDigits, suffix_of}
-use Rattle.c_token.specs.Scans.{rest_of, scanned_value}
+use Rattle.c_token.specs.Scans.{scanned_value}
 use Rattle.c_token.proofs.NumberLaws.{scanned, no_digits-none, no_suffix-none, too_great-none}
 use Rattle.c_token.proofs.Pieces.{length-rest}
 use Rattle.c_token.proofs.numbers.valued.Goals as goal

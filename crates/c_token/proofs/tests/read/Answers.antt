@@ -1,4 +1,4 @@
-use Rattle.std.proofs.Common.{◌≤◌, eqb, arith}
+use Rattle.std.proofs.Common.{eqb, arith}
 use Rattle.std.proofs.lemmas.List.Sums.{count_by-le-length}
 use Rattle.c_token.proofs.tests.read.Goals as goal
 

@@ -1,6 +1,4 @@
-use Rattle.std.proofs.Common.{◌≡◌, ℕ, ◌+◌, ◌<◌, ◌≤◌, List, [], ◌∷◌, ◌++◌, length, true, Some, None, refl, sym, ap, ◌∙◌, subst, arith, length-append}
-use Rattle.c_tree.specs.declared.words.Token.{Token}
-use Rattle.c_tree.specs.declared.words.Word.{Word}
+use Rattle.std.proofs.Common.{◌≡◌, [], ◌∷◌, ◌++◌, length, true, None, sym, ap, ◌∙◌, subst, arith, length-append}
 use Rattle.c_tree.specs.Division.{place, token, Reaches, starts, goes, takes_gap}
 use Rattle.c_tree.specs.Limits.{run_of, nesting_of, unary_of, strings_of, run_after, nesting_after, unary_after, strings_after, passed}
 use Rattle.c_token.specs.Lexemes.{word_of}

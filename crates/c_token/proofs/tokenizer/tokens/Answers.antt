@@ -1,4 +1,4 @@
-use Rattle.std.proofs.Common.{◌≤◌, arith}
+use Rattle.std.proofs.Common.{arith}
 use Rattle.c_token.proofs.AnswerLaws.{divides, divides_or_memory, no_word, limit}
 use Rattle.c_token.proofs.LoopLaws.{line_feeds-count}
 use Rattle.c_token.proofs.tokenizer.tokens.Goals as goal

@@ -1,0 +1,11 @@
+pub mod AnswerLaws
+pub mod Choices
+pub mod DivisionLaws
+pub mod GapLaws
+pub mod LoopLaws
+pub mod NumberLaws
+pub mod Pieces
+pub mod QuoteLaws
+pub mod ReservedWords
+pub mod SignLaws
+pub mod WordLaws

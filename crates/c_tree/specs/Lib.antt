@@ -1,0 +1,9 @@
+pub mod Bytes
+pub mod Characters
+pub mod Division
+pub mod Gaps
+pub mod Limits
+pub mod Names
+pub mod Numbers
+pub mod Signs
+pub mod Words

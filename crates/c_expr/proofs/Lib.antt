@@ -1,0 +1,11 @@
+pub mod Begins
+pub mod Chains
+pub mod Classes
+pub mod Firsts
+pub mod LongestBase
+pub mod LongestPostfix
+pub mod LongestPrimary
+pub mod LongestRow
+pub mod LongestTerm
+pub mod LongestType
+pub mod LongestUnary

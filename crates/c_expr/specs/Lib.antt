@@ -1,0 +1,6 @@
+pub mod Classes
+pub mod ExpressionReading
+pub mod Looking
+pub mod Members
+pub mod Strength
+pub mod TypeReading

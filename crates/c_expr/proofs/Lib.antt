@@ -9,3 +9,7 @@ pub mod LongestRow
 pub mod LongestTerm
 pub mod LongestType
 pub mod LongestUnary
+pub mod Looks
+pub mod Places
+pub mod Spans
+pub mod TypeExistence

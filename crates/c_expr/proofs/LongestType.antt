@@ -107,7 +107,7 @@ annotation_after w u v k x b (count {u = u'} {n = n} c d) = let is : keyword.Cou
 annotation_after w u v k x b (bound {u = u'} {lo = lo} {hi = hi} c d) = let is : keyword.Bound ≡ k = cc in let same : u' ≡ u = cc in
     subst (λ q. AnnotationAfter q u v (annotation.Bound lo hi)) is ((lo, hi), subst (λ q. Enclosed {X = Addr × Addr} EndsAt q v (lo, hi)) same d, refl)
 
-annotation_starts : (w v : List Token) (x : Annotation) → AnnotationAt w v x → At is_annotation w
+pub annotation_starts : (w v : List Token) (x : Annotation) → AnnotationAt w v x → At is_annotation w
 annotation_starts w v x (safe c) = rw c refl
 annotation_starts w v x (sentinel c) = rw c refl
 annotation_starts w v x (nullterm c) = rw c refl

@@ -1,7 +1,9 @@
 pub mod Begins
 pub mod Chains
 pub mod Classes
+pub mod ExpressionExistence
 pub mod Firsts
+pub mod Limited
 pub mod LongestBase
 pub mod LongestPostfix
 pub mod LongestPrimary
@@ -12,4 +14,5 @@ pub mod LongestUnary
 pub mod Looks
 pub mod Places
 pub mod Spans
+pub mod Spelled
 pub mod TypeExistence

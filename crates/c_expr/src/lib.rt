@@ -6,6 +6,7 @@
 
 mod bases;
 mod expressions;
+mod laws;
 mod look;
 mod members;
 mod operators;
@@ -16,6 +17,7 @@ mod sums;
 mod type_names;
 
 pub use expressions::{closed, row, unary};
+pub use laws::{determines_words, one_expression, stands_before_any_words};
 pub use look::{after_keyword, after_sign, first_word, keyword_at, name_at, number_at};
 pub use reader::read_expr;
 pub use refusal::ReadRefusal;

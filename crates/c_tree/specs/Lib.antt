@@ -8,6 +8,8 @@ pub mod Names
 pub mod Numbers
 pub mod Operators
 pub mod Reading
+pub mod Short
 pub mod Signs
+pub mod Spelling
 pub mod TypeGrammar
 pub mod Words

@@ -1,9 +1,15 @@
 pub mod Bytes
 pub mod Characters
 pub mod Division
+pub mod ExpressionGrammar
 pub mod Gaps
 pub mod Limits
 pub mod Names
 pub mod Numbers
+pub mod Operators
+pub mod Reading
+pub mod Short
 pub mod Signs
+pub mod Spelling
+pub mod TypeGrammar
 pub mod Words

@@ -1,0 +1,15 @@
+use Rattle.c_tree.specs.TypeGrammar.{TypeNameAt}
+use Rattle.c_expr.specs.Classes.{At, is_in_types}
+use Rattle.c_expr.proofs.Chains.{enclosed_unclosed, enclosed_closed}
+use Rattle.c_expr.proofs.Classes.{types_close}
+use Rattle.c_expr.proofs.type_names.type_in_parens.Goals as goal
+
+pub returns-in_default-after_sign-clause-best : goal.returns-in_default-after_sign-clause-best
+returns-in_default-after_sign-clause-best c =
+    enclosed_unclosed TypeNameAt (At is_in_types) types_close _ c.in-Some.inside.now c.in-Some-2.after.now c.in-Some-2.type_name c.in-Some.ensures.word
+    (rw c.in-Some-2.is at c.in_ok-type_name.ensures.best) c.in_default-after_sign.ensures.word
+
+pub returns-clause-best : goal.returns-clause-best
+returns-clause-best c =
+    enclosed_closed TypeNameAt (At is_in_types) types_close _ c.in-Some.inside.now c.in-Some-2.after.now c.in-Some-after_sign.rest.now c.in-Some-2.type_name c.in-Some.ensures.word
+    (rw c.in-Some-2.is at c.in_ok-type_name.ensures.best) c.in-Some-after_sign.ensures.word

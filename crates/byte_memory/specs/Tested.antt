@@ -1,0 +1,22 @@
+-- What a tested memory is, and which accesses lie inside what it was granted.
+use Rattle.std.specs.Prelude.{ℕ, ◌+◌, Bool, ◌&&◌, nat_le, List, ◌≡◌}
+use Rattle.std.specs.List.{list_any}
+use Rattle.std.proofs.Common.{◌⊎◌}
+use Rattle.byte_memory.specs.declared.tested.GrantedRange.{GrantedRange}
+
+-- the bytes, and the ranges of them that were granted, the earliest first
+pub record Memory : Type 0 where
+  pub bytes : List ℕ
+  pub granted : List GrantedRange
+
+-- the n bytes from `at` on lie in the range; no sum wraps
+abbrev pub contains : ℕ → ℕ → GrantedRange → Bool
+contains at n range = nat_le range.base at && nat_le (at + n) (range.base + range.size)
+
+-- one granted range has all n bytes from `at` on; two that meet do not count as one
+abbrev pub is_inside : Memory → ℕ → ℕ → Bool
+is_inside memory at n = list_any (contains at n) memory.granted
+
+-- the sizes of an access, in bytes
+abbrev pub IsAccessSize : ℕ → Type 0
+IsAccessSize n = (n ≡ 1) ⊎ (n ≡ 2) ⊎ (n ≡ 4)

@@ -1,10 +1,10 @@
 -- The loads and stores byte by byte: what the bytes from a place on are, and what one write after another leaves.
 use Rattle.std.proofs.Common.{◌≡◌, ℕ, zero, suc, ◌+◌, ◌*◌, ◌/◌, ◌%◌, ◌-◌, ◌≤◌, ◌<◌, List, [], ◌∷◌, ◌++◌, length, take, drop, get_or, set, refl, sym, ap, ◌∙◌, arith, append_assoc, length-append, length-take, length-drop}
 use Rattle.std.proofs.Math.Seq.{drop-cons}
-use Rattle.std.proofs.lemmas.List.{drop-drop, take_at}
+use Rattle.std.proofs.lemmas.List.{append-nil, drop-drop, drop_all, length-replicate, take_at}
 use Rattle.std.proofs.lemmas.List.Edits.{sets, sets-eq}
 use borrow.Rule.Slice.PartMut.{post_of}
-use Rattle.byte_memory.specs.Bytes.{little_endian, low_bytes, bytes_at, overwritten}
+use Rattle.byte_memory.specs.Bytes.{little_endian, low_bytes, bytes_at, overwritten, zeros}
 
 -- the bytes from `at` on: none, and the first of them before the others
 bytes_at-zero : (bytes : List ℕ) (at : ℕ) → bytes_at bytes at 0 ≡ []
@@ -90,3 +90,14 @@ pub part_kept : (bytes new : List ℕ) (at n len : ℕ) → length new ≡ n →
 part_kept bytes new at n len size within kept =
     let written = part_written bytes new at n size in
     rw written (take_at (overwritten bytes at new) _ len (length-overwritten bytes new at (omega arith) ∙ kept))
+
+pub length-zeros : (n : ℕ) → length (zeros n) ≡ n
+unfolding zeros
+length-zeros n = length-replicate n 0
+
+-- zeros over all bytes leave zeros
+pub overwritten-zeros : (bytes : List ℕ) (n : ℕ) → length bytes ≡ n → overwritten bytes 0 (zeros n) ≡ zeros n
+unfolding overwritten
+overwritten-zeros bytes n size =
+    let past : length bytes ≤ 0 + length (zeros n) = omega (arith, length-zeros n) in
+    rw (drop_all (0 + length (zeros n)) bytes past) (append-nil (zeros n))

@@ -1,8 +1,8 @@
 // `Arena`: one allocation of bytes, seen as a list of bytes, with loads and stores of 8, 16 and 32 bits, a fill with zeros, a
 // copy from outside and a view.
 
-ghost use Rattle.std.specs.Prelude.{◌≡◌, ◌+◌, ◌≤◌, length, replicate, IfOk};
-ghost use Rattle.byte_memory.specs.Bytes.{little_endian, low_bytes, bytes_at, overwritten};
+ghost use Rattle.std.specs.Prelude.{◌≡◌, ◌+◌, ◌≤◌, length, IfOk};
+ghost use Rattle.byte_memory.specs.Bytes.{little_endian, low_bytes, bytes_at, overwritten, zeros};
 
 use crate::raw_bytes::{read_byte, write_byte};
 use std::alloc::{AllocError, Global};
@@ -27,8 +27,10 @@ impl Model for Arena {
 
 impl Arena {
     /// An arena of `size` bytes, all 0. Refuses only where memory is wanting.
+    #[tactic(auto, unfolding(crate::specs::Bytes::zeros))]
     pub fn new(alloc: Global, size: u32) -> Result<Arena, AllocError>
-        ensures { IfOk result (λ a. a ≡ replicate size 0) }
+        ensures bytes { IfOk result (λ a. a ≡ zeros size) }
+        ensures len { IfOk result (λ a. length a ≡ size) }
     {
         let bytes = vec![in alloc; 0; size as usize]?;
         Ok(Arena { bytes })
@@ -108,7 +110,7 @@ impl Arena {
     /// Writes 0 over the `n` bytes from `at` on.
     pub fn fill(&mut self, at: u32, n: u32)
         requires { at + n ≤ length self.old }
-        ensures after { self.new ≡ overwritten self.old at (replicate n 0) }
+        ensures after { self.new ≡ overwritten self.old at (zeros n) }
         ensures len { length self.new ≡ length self.old }
     {
         let at = at as usize;

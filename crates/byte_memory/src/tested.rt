@@ -1,8 +1,8 @@
 // `Tested`: an arena with the list of the ranges that were granted in it, for a machine that cannot yet show that its accesses
 // lie inside them and so tests each one first.
 
-ghost use Rattle.std.specs.Prelude.{◌≡◌, ◌+◌, ◌≤◌, ◌<◌, [], ◌∷◌, ◌++◌, length, replicate, IsTrue, IfOk};
-ghost use Rattle.byte_memory.specs.Bytes.{little_endian, low_bytes, bytes_at, overwritten};
+ghost use Rattle.std.specs.Prelude.{◌≡◌, ◌+◌, ◌≤◌, ◌<◌, [], ◌∷◌, ◌++◌, length, IsTrue, IfOk};
+ghost use Rattle.byte_memory.specs.Bytes.{little_endian, low_bytes, bytes_at, overwritten, zeros};
 
 use crate::arena::Arena;
 use std::alloc::{AllocError, Global};
@@ -19,8 +19,12 @@ pub struct GrantedRange {
 }
 
 impl GrantedRange {
+    ghost use Rattle.byte_memory.specs.Tested.{contains};
+
     // Whether the n bytes from `at` on lie in the range. The sums are in 64 bits, where none of them wraps.
-    fn contains(&self, at: u32, n: u32) -> bool {
+    fn contains(&self, at: u32, n: u32) -> bool
+        ensures { result ≡ contains at n self.now }
+    {
         let end = u64::from(self.base) + u64::from(self.size);
         self.base <= at && u64::from(at) + u64::from(n) <= end
     }
@@ -37,15 +41,14 @@ pub struct Tested {
 }
 
 impl Model for Tested {
-    ghost use Rattle.std.specs.Prelude.{◌≡◌, ◌+◌, ◌≤◌, length, All};
-    ghost use Rattle.std.specs.Vec.{vec_len, vec_capacity};
-    ghost use Rattle.byte_memory.specs.Tested.{Memory};
+    ghost use Rattle.std.specs.Vec.{vec_capacity};
+    ghost use Rattle.byte_memory.specs.Tested.{Memory, IsSound};
 
     ghost Value = { Memory };
 
     ghost view = { λ t. record { bytes = t.arena; granted = t.granted.items } };
 
-    ghost invariant = { λ t. (length t.arena ≡ t.size) × All (λ r. r.base + r.size ≤ t.size) t.granted.items × (vec_len t.granted ≤ 4096) × (4096 ≤ vec_capacity t.granted) };
+    ghost invariant = { λ t. IsSound t.arena t.size t.granted.items (vec_capacity t.granted) };
 }
 
 impl Tested {
@@ -54,7 +57,7 @@ impl Tested {
     /// A memory of `size` bytes, all 0, with nothing granted and room for 4,096 ranges. Refuses only where memory is
     /// wanting.
     pub fn new(alloc: Global, size: u32) -> Result<Tested, AllocError>
-        ensures { IfOk result (λ t. t ≡ record { bytes = replicate size 0; granted = [] }) }
+        ensures { IfOk result (λ t. t ≡ record { bytes = zeros size; granted = [] }) }
     {
         let arena = Arena::new(alloc, size)?;
         let granted = Vec::with_capacity(alloc, MAX_GRANTED)?;
@@ -93,7 +96,8 @@ impl Tested {
         match n {
             1 => self.arena.load8(at),
             2 => self.arena.load16(at),
-            _ => self.arena.load32(at),
+            4 => self.arena.load32(at),
+            _ => unreachable!(),
         }
     }
 
@@ -106,13 +110,14 @@ impl Tested {
         match n {
             1 => self.arena.store8(at, v),
             2 => self.arena.store16(at, v),
-            _ => self.arena.store32(at, v),
+            4 => self.arena.store32(at, v),
+            _ => unreachable!(),
         }
     }
 
     /// Makes all bytes 0 and takes every grant back.
     pub fn clear(&mut self)
-        ensures { self.new ≡ record { bytes = replicate (length self.old.bytes) 0; granted = [] } }
+        ensures { self.new ≡ record { bytes = zeros (length self.old.bytes); granted = [] } }
     {
         self.arena.fill(0, self.size);
         self.granted.clear();

@@ -1,10 +1,11 @@
 use Rattle.std.proofs.Common.{◌≡◌, ◌+◌, ◌-◌, ◌≤◌, List, ℕ, length, get_or, set, take, drop, replicate, refl, sym, ap, ◌∙◌, arith, length-take, length-drop}
 use Rattle.std.proofs.lemmas.List.{length-replicate}
-use Rattle.byte_memory.specs.Bytes.{little_endian, low_bytes, bytes_at, overwritten}
+use Rattle.byte_memory.specs.Bytes.{little_endian, low_bytes, bytes_at, overwritten, zeros}
 use Rattle.byte_memory.proofs.arena.Arena.fill.Goals as goal
 use Rattle.byte_memory.proofs.Words.{part_kept}
 
 pub returns-clause-after : goal.returns-clause-after
+unfolding zeros
 returns-clause-after c =
     let size : length c.args.self.now ≡ c.self.inside.bytes.len = ap length (sym c.self.view_is) ∙ (ap length (sym c.deref_mut.ensures.value) ∙ c.deref_mut.ensures.len) in
     let zeros = c.fill.ensures.after (λ y same. same) in

@@ -1,0 +1,8 @@
+use Rattle.std.proofs.Common.{◌≡◌, length}
+use Rattle.byte_memory.specs.Bytes.{zeros}
+use Rattle.byte_memory.proofs.Words.{overwritten-zeros}
+use Rattle.byte_memory.proofs.tested.Tested.clear.Goals as goal
+
+pub returns : goal.returns
+returns c =
+    rw (c.fill.ensures.after, overwritten-zeros c.self.inside.arena c.self.inside.size c.self.invariant.sized, c.clear.ensures.items, ← c.self.view_is, c.self.invariant.sized)

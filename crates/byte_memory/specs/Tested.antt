@@ -1,5 +1,5 @@
 -- What a tested memory is, and which accesses lie inside what it was granted.
-use Rattle.std.specs.Prelude.{ℕ, ◌+◌, ◌≤◌, ◌≡◌, Bool, ◌&&◌, nat_le, List, length, All}
+use Rattle.std.specs.Prelude.{ℕ, ◌+◌, ◌<◌, ◌≤◌, ◌≡◌, ◌↔◌, IsTrue, Bool, ◌&&◌, nat_le, List, length, All, Any}
 use Rattle.std.specs.List.{list_any}
 use Rattle.std.proofs.Common.{◌⊎◌}
 use Rattle.byte_memory.specs.declared.tested.GrantedRange.{GrantedRange}
@@ -28,3 +28,13 @@ pub record IsSound (bytes : List ℕ) (size : ℕ) (granted : List GrantedRange)
   pub within : All (λ range. range.base + range.size ≤ size) granted
   pub few : length granted ≤ 4096
   pub roomy : 4096 ≤ room
+
+-- the address k lies in the range
+abbrev pub HasAddress : GrantedRange → ℕ → Type 0
+HasAddress range k = (range.base ≤ k) × (k < range.base + range.size)
+
+-- an access of some bytes is inside exactly where one granted range has the address of every byte of it
+abbrev pub InsideIsWithinOneRange : Type 0
+InsideIsWithinOneRange =
+    (memory : Memory) (at n : ℕ) → 0 < n
+    → IsTrue (is_inside memory at n) ↔ Any (λ range. (k : ℕ) → at ≤ k → k < at + n → HasAddress range k) memory.granted

@@ -8,6 +8,7 @@
 #![tactic(auto)]
 
 pub mod arena;
+pub mod laws;
 mod raw_bytes;
 pub mod tested;
 

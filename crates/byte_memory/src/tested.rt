@@ -82,7 +82,8 @@ impl Tested {
 
     /// Whether one granted range has all `n` bytes from `at` on, counted without wrapping.
     pub fn inside(&self, at: u32, n: u32) -> bool
-        ensures { result ≡ is_inside self.now at n }
+        ensures test { result ≡ is_inside self.now at n }
+        ensures within { IsTrue result → at + n ≤ length self.now.bytes }
     {
         self.granted.iter().any(|range| range.contains(at, n))
     }

@@ -1,7 +1,6 @@
-use Rattle.std.proofs.Common.{◌≡◌, sym, ◌+◌, ◌*◌, ◌≤◌, length, get_or}
-use Rattle.byte_memory.specs.Bytes.{little_endian, low_bytes, bytes_at, overwritten}
+use Rattle.std.proofs.Common.{sym}
 use Rattle.byte_memory.proofs.arena.Arena.load32.Goals as goal
-use Rattle.byte_memory.proofs.Words.{load_1, load_2, load_4}
+use Rattle.byte_memory.proofs.Words.{load_4}
 
 pub returns : goal.returns
 returns c =

@@ -1,6 +1,5 @@
-use Rattle.std.proofs.Common.{◌≡◌, ◌+◌, ◌-◌, ◌≤◌, length, get_or, set, take, drop, replicate, sym, ap, ◌∙◌, arith}
+use Rattle.std.proofs.Common.{sym, ◌∙◌}
 use Rattle.std.proofs.lemmas.List.{with_items_is}
-use Rattle.byte_memory.specs.Bytes.{little_endian, low_bytes, bytes_at, overwritten}
 use Rattle.byte_memory.proofs.arena.Arena.store16.Goals as goal
 use Rattle.byte_memory.proofs.Words.{store_2}
 

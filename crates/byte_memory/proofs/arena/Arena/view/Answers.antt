@@ -1,6 +1,5 @@
-use Rattle.std.proofs.Common.{◌≡◌, ◌+◌, ◌-◌, ◌≤◌, length, get_or, set, take, drop, replicate, sym, ap, ◌∙◌, arith}
-use Rattle.std.proofs.lemmas.List.{with_items_is}
-use Rattle.byte_memory.specs.Bytes.{little_endian, low_bytes, bytes_at, overwritten}
+use Rattle.std.proofs.Common.{◌≡◌, ◌+◌, ◌-◌, arith}
+use Rattle.byte_memory.specs.Bytes.{bytes_at}
 use Rattle.byte_memory.proofs.arena.Arena.view.Goals as goal
 
 pub returns : goal.returns

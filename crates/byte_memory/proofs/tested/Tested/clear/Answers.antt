@@ -1,5 +1,3 @@
-use Rattle.std.proofs.Common.{◌≡◌, length}
-use Rattle.byte_memory.specs.Bytes.{zeros}
 use Rattle.byte_memory.proofs.Words.{overwritten-zeros}
 use Rattle.byte_memory.proofs.tested.Tested.clear.Goals as goal
 

@@ -1,4 +1,4 @@
-use Rattle.std.proofs.Common.{◌≡◌, ◌+◌, ◌≤◌, ℕ, length, sym, subst}
+use Rattle.std.proofs.Common.{◌+◌, ◌≤◌, ℕ, length, sym, subst}
 use Rattle.std.specs.Prelude.{IsTrue}
 use Rattle.byte_memory.specs.Tested.{Memory, is_inside}
 use Rattle.byte_memory.proofs.Grants.{inside_within}

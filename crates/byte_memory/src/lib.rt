@@ -14,3 +14,6 @@ pub mod tested;
 
 pub use arena::Arena;
 pub use tested::{GrantedRange, Tested};
+
+#[cfg(test)]
+mod tests;

@@ -57,7 +57,8 @@ impl Tested {
     /// A memory of `size` bytes, all 0, with nothing granted and room for 4,096 ranges. Refuses only where memory is
     /// wanting.
     pub fn new(alloc: Global, size: u32) -> Result<Tested, AllocError>
-        ensures { IfOk result (λ t. t ≡ record { bytes = zeros size; granted = [] }) }
+        ensures made { IfOk result (λ t. t ≡ record { bytes = zeros size; granted = [] }) }
+        ensures len { IfOk result (λ t. length t.bytes ≡ size) }
     {
         let arena = Arena::new(alloc, size)?;
         let granted = Vec::with_capacity(alloc, MAX_GRANTED)?;
@@ -106,7 +107,8 @@ impl Tested {
     pub fn store(&mut self, at: u32, n: u32, v: u32)
         requires size { IsAccessSize n }
         requires inside { IsTrue (is_inside self.old at n) }
-        ensures { self.new ≡ record self.old { bytes = overwritten self.old.bytes at (low_bytes n v) } }
+        ensures after { self.new ≡ record self.old { bytes = overwritten self.old.bytes at (low_bytes n v) } }
+        ensures len { length self.new.bytes ≡ length self.old.bytes }
     {
         match n {
             1 => self.arena.store8(at, v),
@@ -118,7 +120,8 @@ impl Tested {
 
     /// Makes all bytes 0 and takes every grant back.
     pub fn clear(&mut self)
-        ensures { self.new ≡ record { bytes = zeros (length self.old.bytes); granted = [] } }
+        ensures after { self.new ≡ record { bytes = zeros (length self.old.bytes); granted = [] } }
+        ensures len { length self.new.bytes ≡ length self.old.bytes }
     {
         self.arena.fill(0, self.size);
         self.granted.clear();

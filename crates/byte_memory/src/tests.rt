@@ -83,7 +83,11 @@ fn loads_count_the_lowest_byte_least(rt: HostRuntime) -> Result<(), Fail> {
         (4, 4, 0x8807_0605),
     ];
     for (width, at, want) in rows {
-        assert_eq!(rt; load(&arena, width, at), Some(want), "{width} bytes at {at}");
+        assert_eq!(rt;
+            load(&arena, width, at),
+            Some(want),
+            "{width} bytes at {at}"
+        );
     }
     Ok(())
 }

@@ -30,7 +30,10 @@ impl Numbers {
 
     // The high bits of a state are the better ones.
     fn step(&mut self) -> u32 {
-        self.state = self.state.wrapping_mul(1_664_525).wrapping_add(1_013_904_223);
+        self.state = self
+            .state
+            .wrapping_mul(1_664_525)
+            .wrapping_add(1_013_904_223);
         self.state / 0x1_0000
     }
 }
@@ -48,7 +51,9 @@ pub fn put(plain: &mut [u8], at: u32, byte: u8) {
 pub fn load(plain: &[u8], at: u32, n: u32) -> u32 {
     let mut sum = 0u32;
     for i in (0..n).rev() {
-        sum = sum.wrapping_mul(256).wrapping_add(u32::from(byte_at(plain, at.wrapping_add(i))));
+        sum = sum
+            .wrapping_mul(256)
+            .wrapping_add(u32::from(byte_at(plain, at.wrapping_add(i))));
     }
     sum
 }

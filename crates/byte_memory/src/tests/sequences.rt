@@ -23,11 +23,19 @@ fn one_call(rt: &impl Abort, numbers: &mut Numbers, arena: &mut Arena, plain: &m
         }
         1 => {
             let at = numbers.below(63);
-            assert_eq!(rt; arena.load16(at), plain::load(plain, at, 2), "load16 at {at}");
+            assert_eq!(rt;
+                arena.load16(at),
+                plain::load(plain, at, 2),
+                "load16 at {at}"
+            );
         }
         2 => {
             let at = numbers.below(61);
-            assert_eq!(rt; arena.load32(at), plain::load(plain, at, 4), "load32 at {at}");
+            assert_eq!(rt;
+                arena.load32(at),
+                plain::load(plain, at, 4),
+                "load32 at {at}"
+            );
         }
         3 => {
             let at = numbers.below(64);
@@ -63,7 +71,11 @@ fn one_call(rt: &impl Abort, numbers: &mut Numbers, arena: &mut Arena, plain: &m
             assert_eq!(rt; part.len(), n as usize);
             for i in 0..n {
                 let byte = part.get(i as usize).copied();
-                assert_eq!(rt; byte, Some(plain::byte_at(plain, at.wrapping_add(i))), "view at {at}");
+                assert_eq!(rt;
+                    byte,
+                    Some(plain::byte_at(plain, at.wrapping_add(i))),
+                    "view at {at}"
+                );
             }
         }
     }
@@ -119,7 +131,11 @@ fn one_tested_call(
         _ => {
             let n = [1, 2, 4][numbers.below(3) as usize];
             if memory.inside(at, n) {
-                assert_eq!(rt; memory.load(at, n), plain::load(plain, at, n), "{n} bytes at {at}");
+                assert_eq!(rt;
+                    memory.load(at, n),
+                    plain::load(plain, at, n),
+                    "{n} bytes at {at}"
+                );
             }
         }
     }

@@ -101,3 +101,6 @@ unfolding overwritten
 overwritten-zeros bytes n size =
     let past : length bytes ≤ 0 + length (zeros n) = omega (arith, length-zeros n) in
     rw (drop_all (0 + length (zeros n)) bytes past) (append-nil (zeros n))
+
+-- what `clear` leaves
+pub ruleset cleared = overwritten-zeros

@@ -119,6 +119,7 @@ impl Tested {
     }
 
     /// Makes all bytes 0 and takes every grant back.
+    #[tactic(auto, using(crate::proofs::Words::cleared))]
     pub fn clear(&mut self)
         ensures after { self.new ≡ record { bytes = zeros (length self.old.bytes); granted = [] } }
         ensures len { length self.new.bytes ≡ length self.old.bytes }

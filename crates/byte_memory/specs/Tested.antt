@@ -1,8 +1,8 @@
 -- What a tested memory is, and which accesses lie inside what it was granted.
-use Rattle.std.specs.Prelude.{ℕ, ◌+◌, ◌<◌, ◌≤◌, ◌≡◌, ◌↔◌, IsTrue, Bool, ◌&&◌, nat_le, List, length, All, Any}
+use Rattle.std.specs.Prelude.{ℕ, ◌+◌, ◌<◌, ◌≤◌, ◌≡◌, ◌↔◌, ◌⊎◌, IsTrue, Bool, ◌&&◌, nat_le, List, length, All, Any}
 use Rattle.std.specs.List.{list_any}
-use Rattle.std.proofs.Common.{◌⊎◌}
 use Rattle.byte_memory.specs.declared.tested.GrantedRange.{GrantedRange}
+use Rattle.byte_memory.specs.declared.tested.TheConstants.{MAX_GRANTED}
 
 -- the bytes, and the ranges of them that were granted, the earliest first
 pub record Memory : Type 0 where
@@ -21,13 +21,13 @@ is_inside memory at n = list_any (contains at n) memory.granted
 abbrev pub IsAccessSize : ℕ → Type 0
 IsAccessSize n = (n ≡ 1) ⊎ (n ≡ 2) ⊎ (n ≡ 4)
 
--- what every tested memory keeps: its size is that of the arena, each granted range lies in it, and there is room for
--- 4,096 ranges, of which no more are granted
+-- what every tested memory keeps: its size is that of the arena, each granted range lies in it, and there is room for as
+-- many ranges as may be granted
 pub record IsSound (bytes : List ℕ) (size : ℕ) (granted : List GrantedRange) (room : ℕ) : Type 0 where
   pub sized : length bytes ≡ size
   pub within : All (λ range. range.base + range.size ≤ size) granted
-  pub few : length granted ≤ 4096
-  pub roomy : 4096 ≤ room
+  pub few : length granted ≤ MAX_GRANTED
+  pub roomy : MAX_GRANTED ≤ room
 
 -- the address k lies in the range
 abbrev pub HasAddress : GrantedRange → ℕ → Type 0

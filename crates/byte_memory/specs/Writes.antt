@@ -1,6 +1,5 @@
 -- Memory seen from its addresses: what stands at an address after writes, and what a load gives after a store.
-use Rattle.std.specs.Prelude.{ℕ, ◌+◌, ◌-◌, ◌%◌, ◌^◌, ◌<◌, ◌≤◌, ◌≡◌, ◌&&◌, Bool, nat_le, nat_lt, List, [], ◌∷◌, length, slice_index, All, if◌then◌else◌}
-use Rattle.std.specs.Prelude.{◌⊎◌}
+use Rattle.std.specs.Prelude.{ℕ, ◌+◌, ◌-◌, ◌%◌, ◌^◌, ◌<◌, ◌≤◌, ◌≡◌, ◌&&◌, Bool, nat_le, nat_lt, List, [], ◌∷◌, length, slice_index, All, ◌⊎◌, if◌then◌else◌}
 use Rattle.byte_memory.specs.Bytes.{little_endian, low_bytes, bytes_at, overwritten}
 
 -- what one call writes: some bytes, from the address `at` on

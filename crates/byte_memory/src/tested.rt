@@ -8,7 +8,7 @@ use crate::arena::Arena;
 use std::alloc::{AllocError, Global};
 use std::marker::Model;
 
-/// How many ranges a tested memory has room for.
+/// How many ranges a tested memory has room for, from `new` on.
 pub const MAX_GRANTED: usize = 4096;
 
 /// The `size` bytes from the address `base` on.
@@ -69,9 +69,9 @@ impl Tested {
         })
     }
 
-    /// Grants the `size` bytes from `base` on.
+    /// Grants the `size` bytes from `base` on, which lie in the memory; fewer than `MAX_GRANTED` ranges are there.
     pub fn grant(&mut self, base: u32, size: u32)
-        requires room { length self.old.granted < 4096 }
+        requires room { length self.old.granted < MAX_GRANTED }
         requires within { base + size ≤ length self.old.bytes }
         ensures { self.new ≡ record self.old { granted = self.old.granted ++ record { base = base; size = size } ∷ [] } }
     {

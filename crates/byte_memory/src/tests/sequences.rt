@@ -6,7 +6,7 @@ ghost use Rattle.std.specs.Prelude.{◌≡◌, ◌+◌, ◌<◌, ◌≤◌, leng
 use super::plain;
 use super::plain::Numbers;
 use crate::arena::Arena;
-use crate::tested::Tested;
+use crate::tested::{MAX_GRANTED, Tested};
 use std::process::Abort;
 use std::test::Fail;
 
@@ -102,7 +102,7 @@ fn one_tested_call(
     ranges: &mut Vec<(u32, u32)>,
 ) -> Result<(), Fail>
     requires size { length memory.old.bytes ≡ 64 }
-    requires room { length memory.old.granted < 4096 }
+    requires room { length memory.old.granted < MAX_GRANTED }
     ensures size { length memory.new.bytes ≡ 64 }
     ensures few { length memory.new.granted ≤ length memory.old.granted + 1 }
 {
@@ -148,7 +148,7 @@ fn every_tested_call_agrees_with_a_plain_vector(rt: HostRuntime) -> Result<(), F
     let mut plain = [0u8; 64];
     let mut ranges = Vec::new(rt.alloc());
     let mut numbers = Numbers::new();
-    for _turn in 0..4000 {
+    for _turn in 0..4000u32 {
         one_tested_call(&rt, &mut numbers, &mut memory, &mut plain, &mut ranges)?;
     }
     Ok(())

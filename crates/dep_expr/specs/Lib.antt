@@ -1,0 +1,4 @@
+pub mod Linear
+pub mod Merged
+pub mod Normed
+pub mod Inequality

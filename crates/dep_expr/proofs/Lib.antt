@@ -7,3 +7,5 @@ pub mod Collapsing
 pub mod Dividing
 pub mod Norming
 pub mod Implying
+pub mod Weights
+mod Examples

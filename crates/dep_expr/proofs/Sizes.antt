@@ -17,6 +17,11 @@ pub abs_high : (z : ℤ) (n : ℕ) → unsigned_abs z ≤ n → z ≤ℤ pos n
 abs_high (pos m) n h = omega (arith, ints)
 abs_high (negsuc m) n h = omega (arith, ints)
 
+-- a number below a bound and above its negative
+pub abs_below : (d : ℤ) (n : ℕ) → neg_ℤ (pos n) <ℤ d → d <ℤ pos n → unsigned_abs d < n
+abs_below (pos m) n h k = omega (arith, ints, h, k)
+abs_below (negsuc m) n h k = omega (arith, ints, h, k)
+
 -- the size of a coefficient times a number
 pub product_abs : (a b : ℤ) → unsigned_abs a < 2 ^ 62 → unsigned_abs b < 2 ^ 33 → unsigned_abs (a *ℤ b) ≤ 2 ^ 95
 product_abs a b h k = omega (arith, unsigned_abs-mul a b, mul-le (unsigned_abs a) (unsigned_abs b) (2 ^ 62) (2 ^ 33) (omega arith) (omega arith))
@@ -64,10 +69,6 @@ sum_with_multiple_is c o b x y z p q r h k =
     let whole : x +ℤ (y *ℤ z) ≡ c +ℤ (o *ℤ b) = ap (λ u. u +ℤ (y *ℤ z)) p ∙ ap (λ u. c +ℤ u) same in
     (subst (λ (u : ℤ). unsigned_abs u < 2 ^ 101) (sym same) (rest c (o *ℤ b) h k), subst (λ (u : ℤ). unsigned_abs u < 2 ^ 100) (sym whole) k, whole)
   where
-    abs_below : (d : ℤ) (n : ℕ) → neg_ℤ (pos n) <ℤ d → d <ℤ pos n → unsigned_abs d < n
-    abs_below (pos m) n h k = omega (arith, ints, h, k)
-    abs_below (negsuc m) n h k = omega (arith, ints, h, k)
-
     rest : (c d : ℤ) → unsigned_abs c < 2 ^ 100 → unsigned_abs (c +ℤ d) < 2 ^ 100 → unsigned_abs d < 2 ^ 101
     rest c d h k =
         abs_below d (2 ^ 101) (omega (arith, ints, abs_low c (2 ^ 100) (omega arith), abs_low (c +ℤ d) (2 ^ 100 - 1) (omega arith), abs_high c (2 ^ 100) (omega arith)))

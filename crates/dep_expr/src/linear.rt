@@ -175,3 +175,6 @@ impl Lin {
         Ok(())
     }
 }
+
+#[cfg(test)]
+mod tests;

@@ -1,6 +1,6 @@
 -- Worked examples: sums with their merged and normed forms, computed.
-use Rattle.std.proofs.Common.{◌≡◌, ℕ, List, [], ◌∷◌, ℤ, pos, negsuc, refl}
-use Rattle.dep_expr.specs.Linear.{LinearForm, scaled, substituted, value_of, numbers_at}
+use Rattle.std.proofs.Common.{◌≡◌, [], ◌∷◌, pos, negsuc, refl}
+use Rattle.dep_expr.specs.Linear.{substituted, value_of, numbers_at}
 use Rattle.dep_expr.specs.Merged.{merged, merged_terms}
 use Rattle.dep_expr.specs.Normed.{gcd, normed}
 

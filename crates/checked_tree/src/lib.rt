@@ -5,6 +5,7 @@
 //! redundant, and what is known at a node.
 #![tactic(auto)]
 
+mod bare_forms;
 mod checks;
 mod expressions;
 mod kernel;
@@ -14,6 +15,7 @@ mod stops;
 mod sums;
 mod units;
 
+pub use bare_forms::bare;
 pub use checks::{Check, Cond};
 pub use expressions::{Arithmetic, CheckedExpr, Comparison, Logic, PointerSum, Unary};
 pub use kernel::{Answer, KernelCall, KernelName};

@@ -1,0 +1,14 @@
+pub mod Outcome
+pub mod Numbers
+pub mod Bytes
+pub mod Memory
+pub mod Conditions
+pub mod Eval
+pub mod Operands
+pub mod Act
+pub mod Step
+pub mod Bare
+pub mod Ranges
+pub mod Edges
+pub mod Flow
+pub mod Redundant

@@ -1,0 +1,26 @@
+//! The checked forms of a driver: expressions and statements with slots for names, offsets for fields and the numbers of their run-time
+//! checks, the shapes of memory, and the checks themselves.
+//!
+//! The crate has types and definitions. `specs` gives the forms their meaning: evaluation, the step of a frame, which checks are
+//! redundant, and what is known at a node.
+#![tactic(auto)]
+
+mod bare_forms;
+mod checks;
+mod expressions;
+mod kernel;
+mod shapes;
+mod statements;
+mod stops;
+mod sums;
+mod units;
+
+pub use bare_forms::bare;
+pub use checks::{Check, Cond};
+pub use expressions::{Arithmetic, CheckedExpr, Comparison, Logic, PointerSum, Unary};
+pub use kernel::{Answer, KernelCall, KernelName};
+pub use shapes::{Bounds, Edge, Member, Scalar, Shape, StructShape, UnionShape};
+pub use statements::{Argument, CheckedStmt, PointerOperand, Target};
+pub use stops::Stop;
+pub use sums::{Part, Sum};
+pub use units::{CheckedFn, CheckedUnit, ImageBlock};

@@ -1,0 +1,24 @@
+-- What an inequality says of an assignment, and when one implies another.
+use Rattle.std.specs.Prelude.{◌≡◌, ◌⊎◌, Option, Some, None, pos, ◌≤ℤ◌}
+use Rattle.dep_expr.specs.Linear.{LinearForm, Assignment, value_of}
+use Rattle.dep_expr.specs.declared.inequality.Ineq.{Ineq}
+
+-- the guard is there, and is 0
+abbrev pub IsExcused : Option LinearForm → Assignment → Type 0
+IsExcused None at = ⊥
+IsExcused (Some guard) at = value_of guard at ≡ pos 0
+
+-- an assignment satisfies the inequality: its left side is at most 0, or its guard is 0
+abbrev pub Satisfies : Assignment → Ineq → Type 0
+Satisfies at i = IsExcused i.guard at ⊎ (value_of i.left at ≤ℤ pos 0)
+
+-- the guard is none, or the same
+abbrev pub IsNoWeaker : Option LinearForm → Option LinearForm → Type 0
+IsNoWeaker g h = (g ≡ None) ⊎ (g ≡ h)
+
+-- the first implies the second as far as the rule on redundant checks knows: the terms are equal,
+-- the constant is at least as great, and the first has no guard or the same
+pub record Implies (strong weak : Ineq) : Type 0 where
+  pub terms : strong.left.terms ≡ weak.left.terms
+  pub constant : weak.left.constant ≤ℤ strong.left.constant
+  pub guard : IsNoWeaker strong.guard weak.guard

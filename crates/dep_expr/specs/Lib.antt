@@ -1,0 +1,5 @@
+pub mod Linear
+pub mod Merged
+pub mod Normed
+pub mod Inequality
+pub mod Weight

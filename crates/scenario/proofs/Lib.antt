@@ -1,0 +1,5 @@
+pub mod Cutting
+pub mod Digits
+pub mod Counting
+pub mod Outcome
+pub mod Fitting

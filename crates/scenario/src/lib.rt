@@ -1,0 +1,19 @@
+//! Scenario texts: the events of a run and the answers of its devices, read line by line.
+#![tactic(auto)]
+
+mod event;
+mod forms;
+mod keywords;
+mod lines;
+mod numbers;
+mod plan;
+mod refusal;
+mod values;
+mod words;
+
+pub use event::{Event, KernelEvent};
+pub use plan::{Scenario, read_scenario};
+pub use refusal::{ScenarioLimit, ScenarioRefusal};
+
+#[cfg(test)]
+mod tests;

@@ -1,5 +1,5 @@
 -- The last element that passes, by its place.
-use Rattle.std.proofs.Common.{◌≡◌, ℕ, zero, suc, length, get_or, drop, ◌<◌, Bool, true, false, List, [], ◌∷◌, Option, Some, None, refl, arith}
+use Rattle.std.proofs.Common.{◌≡◌, ℕ, zero, suc, length, get_or, drop, ◌<◌, Bool, true, false, List, [], ◌∷◌, Some, None, refl, arith}
 use Rattle.std.specs.List.{list_any}
 use Rattle.std.proofs.lemmas.List.Folds.{list_any_at}
 use Rattle.sd_base.specs.Selection.{find_last}

@@ -1,14 +1,13 @@
 -- Which claim an entry is: a test of entries by their keys is a test of their claims.
-use Rattle.std.proofs.Common.{◌≡◌, ℕ, ◌+◌, ◌≤◌, Bool, true, false, cond, not, ◌&&◌, eqb, ltb, List, [], ◌∷◌, map, reverse, slice_get, ℤ, pos, negsuc, ◌+ℤ◌, int_lt, Option, Some, None, refl, ap, sym, ◌∙◌, subst, arith}
-use Rattle.std.proofs.lemmas.Bool.Decides.{nat_tests, Decides-int_eq}
-use Rattle.std.specs.List.{list_any, filter, filter_map, find, count_by}
+use Rattle.std.proofs.Common.{◌≡◌, ℕ, true, false, cond, not, ◌&&◌, eqb, List, [], ◌∷◌, map, slice_get, ℤ, pos, negsuc, Option, Some, None, refl, ap, sym, subst, arith}
+use Rattle.std.proofs.lemmas.Bool.Decides.{Decides-int_eq}
+use Rattle.std.specs.List.{filter, filter_map, find}
 use Rattle.std.specs.Ordering.{int_eq}
 use Rattle.sd_base.specs.declared.history.Update.{Update}
 use Rattle.sd_base.specs.declared.history.Update.TheVariants.{Line, Ports, Device, Param}
 use Rattle.sd_base.specs.Selection.{passes, is_below}
 use Rattle.sd_base.specs.History.{Entry, entry, same_resource, OfLines, OfPorts, OfDevices, OfParams, live_key, line_key, ports_key, device_key, param_key, has_key, is_of, is_of_kind}
 use Rattle.sd_base.specs.Allowed.{is_range, meets, is_astray}
-use Rattle.sd_base.proofs.Counting.{count_by-cons}
 use Rattle.claim_table.specs.declared.claim.Claim.{Claim}
 use Rattle.claim_table.specs.declared.claims.Holder.{Holder}
 use Rattle.claim_table.specs.Ordered.{has_number, is_owned, is_claim}

@@ -1,10 +1,10 @@
 -- How an entry changes the table's part: entries of other kinds leave it, a claim comes in, a claim goes.
-use Rattle.std.proofs.Common.{◌≡◌, ℕ, ◌≤◌, Bool, true, false, not, eqb, List, [], ◌∷◌, ℤ, pos, negsuc, Option, Some, None, refl, ap, sym, ◌∙◌, subst, arith}
-use Rattle.std.specs.List.{list_any, filter, filter_map, count_by}
+use Rattle.std.proofs.Common.{◌≡◌, ℕ, false, not, eqb, List, ℤ, pos, negsuc, Option, Some, refl, ap, sym, ◌∙◌, subst}
+use Rattle.std.specs.List.{filter, filter_map}
 use Rattle.sd_base.specs.declared.history.Update.{Update}
 use Rattle.sd_base.specs.declared.history.Update.TheVariants.{Line, Ports, Device, Param}
 use Rattle.sd_base.specs.Selection.{without_first}
-use Rattle.sd_base.specs.History.{Entry, entry, Key, same_resource, OfLines, OfPorts, OfDevices, OfParams, line_key, ports_key, device_key, param_key, key_of, is_of, after_entry, is_owner, Without, History, live_of}
+use Rattle.sd_base.specs.History.{Entry, entry, same_resource, OfLines, OfPorts, OfDevices, OfParams, line_key, ports_key, device_key, param_key, key_of, is_of, after_entry, is_owner, Without, History, live_of}
 use Rattle.sd_base.specs.Sound.{IsSound}
 use Rattle.sd_base.proofs.Live.{rows-after_entry_other, rows-without_other, live_of-Without}
 use Rattle.sd_base.proofs.Rows.{filter_map-filter}

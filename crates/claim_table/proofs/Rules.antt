@@ -1,16 +1,14 @@
 -- The table's own rules are the history's: what a call answers by the table's contents is what the history allows.
-use Rattle.std.proofs.Common.{◌≡◌, ℕ, ◌+◌, ◌≤◌, Bool, true, false, cond, not, ◌&&◌, ◌||◌, eqb, ltb, List, [], ◌∷◌, ℤ, pos, negsuc, nat_abs, Option, Some, None, Result, Ok, Err, refl, ap, sym, ◌∙◌, subst, arith}
+use Rattle.std.proofs.Common.{◌≡◌, ℕ, Bool, true, false, ◌&&◌, ltb, List, ℤ, pos, negsuc, nat_abs, refl, ap, sym, ◌∙◌, arith}
 use Rattle.std.proofs.lemmas.Bool.Decides.{nat_tests}
 use Rattle.std.specs.List.{list_any, filter_map, count_by}
-use Rattle.sd_base.specs.declared.history.Update.{Update}
 use Rattle.sd_base.specs.declared.history.Update.TheVariants.{Line, FreeLine, Ports, DropPorts, Device, DelDevice, Param, ClearParam}
-use Rattle.sd_base.specs.Selection.{is_below}
 use Rattle.sd_base.specs.History.{Entry, OfPorts, OfDevices, OfParams, line_key, ports_key, device_key, param_key, has_key, is_of, is_of_kind}
 use Rattle.sd_base.specs.Allowed.{is_range, meets, refusal_on, is_astray}
 use Rattle.sd_base.specs.Sound.{IsSound}
 use Rattle.sd_base.proofs.Rows.{list_any-filter_map}
 use Rattle.sd_base.proofs.Removal.{list_any-wider}
-use Rattle.claim_table.specs.Ordered.{has_number, is_owned, is_claim, in_order}
+use Rattle.claim_table.specs.Ordered.{has_number, is_owned, is_claim}
 use Rattle.claim_table.specs.ClaimRows.{ClaimRows, range_meets, is_range_claim}
 use Rattle.claim_table.specs.ClaimCalls.{if_held, line_answer, holds_line, ports_answer, holds_ports, device_answer, holds_device, param_answer, holds_param}
 use Rattle.claim_table.specs.ClaimPart.{line_row, ports_row, device_row, param_row, HoldsClaims, refused_as}

@@ -1,23 +1,22 @@
 -- Each call serves every lawful history of which the table holds its part: from what the call answers by the table's contents, and
 -- from what the table contains after it.
-use Rattle.std.proofs.Common.{◌≡◌, ℕ, Bool, true, false, cond, not, ◌&&◌, eqb, ltb, List, [], ◌∷◌, ◌++◌, map, reverse, slice_get, ℤ, pos, negsuc, nat_abs, Option, Some, None, Result, Ok, Err, OnOk, IfOk, refl, ap, sym, ◌∙◌, subst, arith}
+use Rattle.std.proofs.Common.{◌≡◌, ℕ, Bool, true, false, cond, ◌&&◌, eqb, ltb, List, [], ◌∷◌, ◌++◌, map, reverse, slice_get, ℤ, pos, negsuc, Option, Some, None, Ok, Err, OnOk, refl, ap, sym, ◌∙◌, subst, arith}
 use Rattle.std.proofs.lemmas.Option.{slice_get-map}
 use Rattle.std.specs.Option.{option_map}
-use Rattle.std.specs.List.{list_any, filter, filter_map, find}
+use Rattle.std.specs.List.{list_any, filter, filter_map}
 use Rattle.sd_base.specs.declared.history.Update.{Update}
 use Rattle.sd_base.specs.declared.history.Update.TheVariants.{Line, FreeLine, Ports, DropPorts, Device, DelDevice, Param, ClearParam}
-use Rattle.sd_base.specs.Selection.{is_below, find_last, without_first}
+use Rattle.sd_base.specs.Selection.{find_last, without_first}
 use Rattle.sd_base.specs.History.{Entry, History, entry, line_key, ports_key, device_key, param_key, is_of, after_entry, live_of, clock_of}
-use Rattle.sd_base.specs.Allowed.{is_range, refusal, IsLawful, IsProper, is_astray}
+use Rattle.sd_base.specs.Allowed.{is_range, refusal, is_astray}
 use Rattle.sd_base.specs.Part.{Serves, Loses}
 use Rattle.sd_base.specs.Sound.{IsSound}
 use Rattle.sd_base.proofs.Counting.{reverse-cons}
 use Rattle.sd_base.proofs.SoundLive.{lawful_sound}
 use Rattle.claim_table.specs.declared.claim.Claim.{Claim}
-use Rattle.claim_table.specs.declared.claims.ClaimRefusal.{ClaimRefusal}
 use Rattle.claim_table.specs.declared.claims.ClaimRefusal.TheVariants.{Busy, Bad, Full}
 use Rattle.claim_table.specs.declared.claims.Holder.{Holder}
-use Rattle.claim_table.specs.Ordered.{has_number, in_order}
+use Rattle.claim_table.specs.Ordered.{has_number}
 use Rattle.claim_table.specs.ClaimRows.{ClaimRows, covers}
 use Rattle.claim_table.specs.ClaimCalls.{Answer, if_held, line_answer, with_line, holds_line, without_line, ports_answer, with_ports, holds_ports, without_ports, device_answer, with_device, holds_device, without_device, param_answer, with_param, holds_param, without_param, detail_of, holder_in, param_value, line_holder}
 use Rattle.claim_table.specs.ClaimPart.{line_row, ports_row, param_row, HoldsClaims, refused_as, OfEachHistory, holder_by, holders_of, port_in, holds_port, value_by, values_of}
@@ -56,7 +55,7 @@ line_serves old new owner line handler answer is after =
     serves_by old new owner (Line line handler) answer
     (λ h s holds. ap refused_as is ∙ line_rule old (live_of h) (clock_of h) owner line handler holds)
     (λ ok live s holds. subst (λ t. HoldsClaims t (after_entry (entry owner (Line line handler)) live)) (sym (done answer (new ≡ with_line old owner line handler) after ok))
-        (line_in old owner line handler (sym is ∙ ok) live holds))
+    (line_in old owner line handler (sym is ∙ ok) live holds))
 
 line_out : (t : ClaimRows) (owner : ℕ) (line : ℤ) → holds_line t owner line ≡ true → (live : List Entry) → IsSound live → HoldsClaims t live → HoldsClaims (without_line t owner line) (without_first (is_of owner (line_key line)) live)
 line_out t owner (pos k) has live s h = line_goes t live owner k s h
@@ -72,7 +71,7 @@ free_line_serves old new owner line answer is after =
     serves_by old new owner (FreeLine line) answer
     (λ h s holds. ap refused_as is ∙ free_line_rule old (live_of h) (clock_of h) owner line s holds)
     (λ ok live s holds. subst (λ t. HoldsClaims t (without_first (is_of owner (line_key line)) live)) (sym (done answer (new ≡ without_line old owner line) after ok))
-        (line_out old owner line (was_held (holds_line old owner line) (sym is ∙ ok)) live s holds))
+    (line_out old owner line (was_held (holds_line old owner line) (sym is ∙ ok)) live s holds))
 
 pub line_loses : (old new : ClaimRows) (owner : ℕ) (line : ℤ) → holds_line old owner line ≡ true → new ≡ without_line old owner line → Loses HoldsClaims old owner (line_key line) new
 line_loses old new owner line has is live s holds = subst (λ t. HoldsClaims t (without_first (is_of owner (line_key line)) live)) (sym is) (line_out old owner line has live s holds)
@@ -101,7 +100,7 @@ ports_serve old new owner base n answer is after =
     serves_by old new owner (Ports base n) answer
     (λ h s holds. ap refused_as is ∙ ports_rule old (live_of h) (clock_of h) owner base n s holds)
     (λ ok live s holds. subst (λ t. HoldsClaims t (after_entry (entry owner (Ports base n)) live)) (sym (done answer (new ≡ with_ports old owner base n) after ok))
-        (ports_in old owner base n (sym is ∙ ok) live holds))
+    (ports_in old owner base n (sym is ∙ ok) live holds))
 
 ports_out : (t : ClaimRows) (owner : ℕ) (base n : ℤ) → holds_ports t owner base n ≡ true → (live : List Entry) → IsSound live → HoldsClaims t live →
     HoldsClaims (without_ports t owner base n) (without_first (is_of owner (ports_key base n)) live)
@@ -115,7 +114,7 @@ drop_ports_serves old new owner base n answer is after =
     serves_by old new owner (DropPorts base n) answer
     (λ h s holds. ap refused_as is ∙ drop_ports_rule old (live_of h) (clock_of h) owner base n s holds)
     (λ ok live s holds. subst (λ t. HoldsClaims t (without_first (is_of owner (ports_key base n)) live)) (sym (done answer (new ≡ without_ports old owner base n) after ok))
-        (ports_out old owner base n (was_held (holds_ports old owner base n) (sym is ∙ ok)) live s holds))
+    (ports_out old owner base n (was_held (holds_ports old owner base n) (sym is ∙ ok)) live s holds))
 
 pub ports_lose : (old new : ClaimRows) (owner : ℕ) (base n : ℤ) → holds_ports old owner base n ≡ true → new ≡ without_ports old owner base n → Loses HoldsClaims old owner (ports_key base n) new
 ports_lose old new owner base n has is live s holds =
@@ -131,7 +130,7 @@ device_serves old new owner id answer is after =
     serves_by old new owner (Device id) answer
     (λ h s holds. ap refused_as is ∙ device_rule old (live_of h) (clock_of h) owner id s holds)
     (λ ok live s holds. subst (λ t. HoldsClaims t (after_entry (entry owner (Device id)) live)) (sym (done answer (new ≡ with_device old owner id) after ok))
-        (device_in old owner id (sym is ∙ ok) live holds))
+    (device_in old owner id (sym is ∙ ok) live holds))
 
 device_out : (t : ClaimRows) (owner : ℕ) (id : ℤ) → holds_device t owner id ≡ true → (live : List Entry) → IsSound live → HoldsClaims t live → HoldsClaims (without_device t owner id) (without_first (is_of owner (device_key id)) live)
 device_out t owner (pos k) has live s h = device_goes t live owner k s h
@@ -143,7 +142,7 @@ del_device_serves old new owner id answer is after =
     serves_by old new owner (DelDevice id) answer
     (λ h s holds. ap refused_as is ∙ del_device_rule old (live_of h) (clock_of h) owner id s holds)
     (λ ok live s holds. subst (λ t. HoldsClaims t (without_first (is_of owner (device_key id)) live)) (sym (done answer (new ≡ without_device old owner id) after ok))
-        (device_out old owner id (was_held (holds_device old owner id) (sym is ∙ ok)) live s holds))
+    (device_out old owner id (was_held (holds_device old owner id) (sym is ∙ ok)) live s holds))
 
 pub device_loses : (old new : ClaimRows) (owner : ℕ) (id : ℤ) → holds_device old owner id ≡ true → new ≡ without_device old owner id → Loses HoldsClaims old owner (device_key id) new
 device_loses old new owner id has is live s holds = subst (λ t. HoldsClaims t (without_first (is_of owner (device_key id)) live)) (sym is) (device_out old owner id has live s holds)
@@ -158,7 +157,7 @@ param_serves old new owner key value answer is after =
     serves_by old new owner (Param key value) answer
     (λ h s holds. ap refused_as is ∙ param_rule old (live_of h) (clock_of h) owner key value s holds)
     (λ ok live s holds. subst (λ t. HoldsClaims t (after_entry (entry owner (Param key value)) live)) (sym (done answer (new ≡ with_param old owner key value) after ok))
-        (param_in old owner key value (sym is ∙ ok) live s holds))
+    (param_in old owner key value (sym is ∙ ok) live s holds))
 
 param_out : (t : ClaimRows) (owner : ℕ) (key : ℤ) → holds_param t owner key ≡ true → (live : List Entry) → IsSound live → HoldsClaims t live → HoldsClaims (without_param t owner key) (without_first (is_of owner (param_key key)) live)
 param_out t owner (pos k) has live s h = param_goes t live owner k s h
@@ -170,7 +169,7 @@ clear_param_serves old new owner key answer is after =
     serves_by old new owner (ClearParam key) answer
     (λ h s holds. ap refused_as is ∙ clear_param_rule old (live_of h) (clock_of h) owner key s holds)
     (λ ok live s holds. subst (λ t. HoldsClaims t (without_first (is_of owner (param_key key)) live)) (sym (done answer (new ≡ without_param old owner key) after ok))
-        (param_out old owner key (was_held (holds_param old owner key) (sym is ∙ ok)) live s holds))
+    (param_out old owner key (was_held (holds_param old owner key) (sym is ∙ ok)) live s holds))
 
 pub param_loses : (old new : ClaimRows) (owner : ℕ) (key : ℤ) → holds_param old owner key ≡ true → new ≡ without_param old owner key → Loses HoldsClaims old owner (param_key key) new
 param_loses old new owner key has is live s holds = subst (λ t. HoldsClaims t (without_first (is_of owner (param_key key)) live)) (sym is) (param_out old owner key has live s holds)

@@ -1,5 +1,5 @@
 -- What a test of entries is of their rows, where none of the entries is astray.
-use Rattle.std.proofs.Common.{◌≡◌, ℕ, ◌+◌, ◌≤◌, Bool, true, false, cond, not, List, [], ◌∷◌, Option, Some, None, refl, ap, sym, ◌∙◌, subst, arith}
+use Rattle.std.proofs.Common.{◌≡◌, ◌≤◌, Bool, false, not, List, [], ◌∷◌, Option, Some, None, refl, ap, sym, ◌∙◌, subst, arith}
 use Rattle.std.specs.List.{list_any, filter, filter_map, count_by}
 use Rattle.sd_base.specs.Selection.{without_first, passes}
 use Rattle.sd_base.proofs.Counting.{count_by-cons}

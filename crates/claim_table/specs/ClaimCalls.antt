@@ -1,5 +1,5 @@
 -- What each call of the table answers by what the table contains, and what the table contains after it.
-use Rattle.std.specs.Prelude.{ℕ, Bool, cond, not, ◌&&◌, ltb, ℤ, nat_abs, slice_get, Option, Some, None, Result, Ok, Err}
+use Rattle.std.specs.Prelude.{ℕ, Bool, cond, ◌&&◌, ltb, ℤ, nat_abs, slice_get, Option, Some, None, Result, Ok, Err}
 use Rattle.std.specs.List.{list_any, filter, count_by}
 use Rattle.sd_base.specs.Selection.{is_below, find_last}
 use Rattle.sd_base.specs.Allowed.{is_range}

@@ -1,5 +1,5 @@
 -- The table's part of a history, and what the reading calls say of the history.
-use Rattle.std.specs.Prelude.{◌≡◌, ℕ, Bool, false, cond, not, ◌&&◌, eqb, List, reverse, ℤ, pos, ◌+ℤ◌, int_lt, Option, Some, None, Result, Ok, Err}
+use Rattle.std.specs.Prelude.{◌≡◌, ℕ, Bool, false, cond, not, ◌&&◌, eqb, List, reverse, ℤ, pos, ◌+ℤ◌, int_lt, Option, Some, None, Ok, Err}
 use Rattle.std.specs.List.{list_any, filter_map}
 use Rattle.std.specs.Ordering.{int_eq}
 use Rattle.sd_base.specs.declared.history.Refusal.{Refusal}

@@ -1,5 +1,5 @@
 -- What the table of claims contains.
-use Rattle.std.specs.Prelude.{◌≡◌, ℕ, Bool, ◌&&◌, ltb, eqb, ◌+◌, not, List, [], ℤ, pos, int_lt, nat_abs, cond, Option, Some, None}
+use Rattle.std.specs.Prelude.{ℕ, Bool, ◌&&◌, ltb, eqb, ◌+◌, not, List, [], ℤ, pos, int_lt, nat_abs, cond, Option, Some, None}
 use Rattle.sd_base.specs.Allowed.{is_range}
 use Rattle.claim_table.specs.declared.claim.Claim.{Claim}
 use Rattle.claim_table.specs.declared.claim.PortRange.{PortRange}

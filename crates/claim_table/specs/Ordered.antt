@@ -1,5 +1,5 @@
 -- Claims in the order of their numbers, those of one number in the order of their making.
-use Rattle.std.specs.Prelude.{◌≡◌, ℕ, ◌≤◌, Bool, true, false, cond, not, ◌&&◌, eqb, ltb, List, [], ◌∷◌}
+use Rattle.std.specs.Prelude.{◌≡◌, ℕ, ◌≤◌, Bool, false, cond, not, ◌&&◌, eqb, ltb, List, [], ◌∷◌}
 use Rattle.std.specs.List.{list_any, count_by}
 use Rattle.claim_table.specs.declared.claim.Claim.{Claim}
 

@@ -10,7 +10,9 @@ ghost use Rattle.claim_table.specs.ClaimPart.{HoldsClaims, refused_as, OfEachHis
 
 use crate::Claim;
 use crate::claim::port_range;
-use crate::rows::{Rows, count_of, has_claim, has_number, has_port, has_range, latest, meets_range, nth_of};
+use crate::rows::{
+    Rows, count_of, has_claim, has_number, has_port, has_range, latest, meets_range, nth_of,
+};
 use sd_base::limits::{DEVICES, PARAMETERS, PORT_RANGES};
 use sd_base::{Memory, Steps, number_below};
 use std::alloc::Global;

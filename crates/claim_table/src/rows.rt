@@ -23,7 +23,7 @@ impl<D> Model for Rows<D> {
     ghost use Rattle.std.specs.Prelude.{List, ◌≤◌, vec_capacity};
     ghost use Rattle.claim_table.specs.declared.claim.Claim.{Claim};
     ghost use Rattle.sd_base.specs.Selection.{find_last};
-ghost use Rattle.claim_table.specs.Ordered.{IsOrdered};
+    ghost use Rattle.claim_table.specs.Ordered.{IsOrdered};
 
     ghost Value = { List (Claim D) };
 
@@ -106,9 +106,8 @@ pub fn meets_range(claims: &[Claim<u32>], base: u16, n: u32) -> bool
 {
     let base = u64::from(base);
     let end = base + u64::from(n);
-    claims
-        .iter()
-        .any(|c| u64::from(c.number) < end && base < u64::from(c.number) + u64::from(c.detail))
+    claims.iter().any(|c| u64::from(c.number) < end
+        && base < u64::from(c.number) + u64::from(c.detail))
 }
 
 /// Whether this owner has claimed exactly these ports.
@@ -168,7 +167,6 @@ impl Rows<u32> {
     pub fn drop_range(&mut self, owner: u8, base: u16, n: u32)
         ensures { self.new ≡ filter (is_not_range_claim owner base n) self.old }
     {
-        self.claims
-            .retain(|c| !(c.owner == owner && c.number == base && c.detail == n));
+        self.claims.retain(|c| !(c.owner == owner && c.number == base && c.detail == n));
     }
 }

@@ -9,7 +9,13 @@ fn a_line_is_granted_once_and_again_when_it_is_free(rt: HostRuntime) -> Result<(
     assert_eq!(rt; claims.claim_line(2, 5, 8), Err(ClaimRefusal::Busy));
     assert_eq!(rt; claims.claim_line(2, 64, 8), Err(ClaimRefusal::Bad));
     assert_eq!(rt; claims.free_line(2, 5), Err(ClaimRefusal::Bad));
-    assert_eq!(rt; claims.holder(5, 0), Some(Holder { owner: 1, handler: 7 }));
+    assert_eq!(rt;
+        claims.holder(5, 0),
+        Some(Holder {
+            owner: 1,
+            handler: 7
+        })
+    );
     assert_eq!(rt; claims.free_line(1, 5), Ok(()));
     assert_eq!(rt; claims.holder(5, 0), None);
     assert_eq!(rt; claims.claim_line(2, 5, 8), Ok(()));

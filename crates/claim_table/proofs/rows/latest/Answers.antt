@@ -1,9 +1,8 @@
-use Rattle.std.proofs.Common.{◌≡◌, ◌<◌, ◌-◌, ℕ, suc, false, true, length, get_or, drop, Some, None, sym, ap, ◌∙◌, subst, arith}
+use Rattle.std.proofs.Common.{◌≡◌, ◌<◌, ◌-◌, ℕ, suc, false, true, length, get_or, drop, Some, sym, ap, ◌∙◌, subst, arith}
 use Rattle.std.proofs.lemmas.Bool.Decides.{nat_tests}
 use Rattle.std.specs.List.{list_any}
 use Rattle.claim_table.specs.Ordered.{has_number}
 use Rattle.claim_table.proofs.Found.{find_last_at, find_last_none}
-use Rattle.claim_table.proofs.Serves.{line_serves}
 use Rattle.claim_table.proofs.rows.latest.Goals as goal
 
 pub returns-then-claim-number : goal.returns-then-claim-number

@@ -1,10 +1,9 @@
-use Rattle.std.proofs.Common.{◌≡◌, ◌<◌, length, Ok, Err, OnOk, refl, rules, arith, subst, sym}
-use Rattle.std.proofs.lemmas.Grind.{common_steps}
+use Rattle.std.proofs.Common.{◌≡◌, Ok, Err, rules, arith, subst, sym}
 use Rattle.sd_base.proofs.Numbered.{number_is_cast}
 use Rattle.claim_table.specs.Ordered.{FewOfEach}
 use Rattle.claim_table.proofs.Caps.{few_length, few_insert, free_number}
-use Rattle.claim_table.specs.declared.claims.ClaimRefusal.TheVariants.{Busy, Bad, Full}
-use Rattle.claim_table.specs.ClaimCalls.{Answer, line_answer, with_line}
+use Rattle.claim_table.specs.declared.claims.ClaimRefusal.TheVariants.{Busy}
+use Rattle.claim_table.specs.ClaimCalls.{Answer, line_answer}
 use Rattle.claim_table.proofs.Serves.{line_serves}
 use Rattle.claim_table.proofs.claims.Claims.claim_line.Goals as goal
 

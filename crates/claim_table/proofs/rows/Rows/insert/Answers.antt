@@ -1,5 +1,5 @@
 -- The binary search finds the place behind all claims with the number or a smaller one; there is room, so the vector takes the claim.
-use Rattle.std.proofs.Common.{◌≡◌, ◌<◌, ◌≤◌, ℕ, rules, leb, sym, ap, ◌∙◌, subst, insert, length, is_ok, arith, IsTrue, Bool, true, false, List, vec_capacity, vec_len, if◌then◌else◌}
+use Rattle.std.proofs.Common.{◌≡◌, ◌<◌, ℕ, rules, leb, sym, ap, ◌∙◌, subst, insert, length, is_ok, arith, IsTrue, Bool, true, false, List, vec_capacity, vec_len, if◌then◌else◌}
 use Rattle.std.specs.List.Sorted.{IsNonDecreasingBy, IsPartitionedBy}
 use Rattle.std.proofs.lemmas.List.Sorted.{IsPartitionPoint-from_clause, IsPartitionedBy-leb}
 use Rattle.claim_table.specs.declared.claim.Claim.{Claim}

@@ -142,7 +142,7 @@ fits_step drivers first (Some (answers port values)) saids fits rest = (fits (an
 
 all_fit : (drivers : ℕ) (lines : List (List ℕ)) (first : ℕ) → AllFit drivers (events_said first (saids_from drivers lines))
 all_fit drivers [] first = tt
-all_fit drivers (line ∷ lines) first = fits_step drivers first _ _ (said_fits drivers (words_of line)) (all_fit drivers lines)
+all_fit drivers (line ∷ lines) first = fits_step drivers first (line_said drivers (words_of line)) (saids_from drivers lines) (said_fits drivers (words_of line)) (all_fit drivers lines)
 
 skips : (first end : ℕ) (said : Event) (events : List Event) → IsNoAnswer said → AnswersFollow first events end → AnswersFollow first (said ∷ events) end
 skips first end (e.Answer port from n) events no h = absurd no
@@ -159,7 +159,7 @@ follow_step drivers first (Some (answers port values)) saids fits rest =
 
 all_follow : (drivers : ℕ) (lines : List (List ℕ)) (first : ℕ) → AnswersFollow first (events_said first (saids_from drivers lines)) (first + length (answers_given (saids_from drivers lines)))
 all_follow drivers [] first = omega arith
-all_follow drivers (line ∷ lines) first = follow_step drivers first _ _ (said_fits drivers (words_of line)) (all_follow drivers lines)
+all_follow drivers (line ∷ lines) first = follow_step drivers first (line_said drivers (words_of line)) (saids_from drivers lines) (said_fits drivers (words_of line)) (all_follow drivers lines)
 
 -- what fits, and follows to its number of values
 abbrev pub IsFitPlan : ℕ → List Event → ℕ → Type 0

@@ -3,3 +3,4 @@ pub mod Digits
 pub mod Counting
 pub mod Outcome
 pub mod Fitting
+pub mod Ruling

@@ -84,9 +84,10 @@ first_after_cons : (n total : ℕ) (said : Option Said) (saids : List (Option Sa
     → first_after n total (said ∷ saids) ≡ or_later (line_refusal said (n + 1) (total + length (given_by said))) (first_after (n + 1) (total + length (given_by said)) saids)
 unfolding first_after
 first_after_cons n total said saids =
+    let same : ◌≡◌ {A = ℕ → Option ScenarioRefusal} (λ i. refusal_after n total (said ∷ saids) (i + 1)) (refusal_after (n + 1) (total + length (given_by said)) saids) = λ j i. refusal_of_later n total said saids i j in
     let later : map (refusal_after n total (said ∷ saids)) (range_with_len 1 (length saids)) ≡ map (refusal_after (n + 1) (total + length (given_by said)) saids) (range_with_len 0 (length saids)) =
-        shifted (refusal_after n total (said ∷ saids)) 0 (length saids) ∙ ap (λ f. map f (range_with_len 0 (length saids))) (λ j i. refusal_of_later n total said saids i j) in
-    first_of_two _ _
+        shifted (refusal_after n total (said ∷ saids)) 0 (length saids) ∙ ap (λ (f : ℕ → Option ScenarioRefusal). map f (range_with_len 0 (length saids))) same in
+    first_of_two (refusal_after n total (said ∷ saids) 0) (map (refusal_after n total (said ∷ saids)) (range_with_len 1 (length saids)))
     ∙ ap (λ os. or_later (refusal_after n total (said ∷ saids) 0) (first_some os)) later
     ∙ ap (λ o. or_later o (first_some (map (refusal_after (n + 1) (total + length (given_by said)) saids) (range_with_len 0 (length saids))))) (refusal_of_front n total said saids)
 
@@ -111,7 +112,7 @@ outcome_after n total (said ∷ saids) =
     let r = line_refusal said (n + 1) (total + length (given_by said)) in
     let scenario : List Event → List Event × List ℤ = λ events. (events, given_by said ++ answers_given saids) in
     ap (λ o. refused_or r (behind (events_said total (said ∷ [])) (given_by said) o)) (outcome_after (n + 1) (total + length (given_by said)) saids)
-    ∙ put_in_front r (first_after (n + 1) (total + length (given_by said)) saids) _ _ _ _
+    ∙ put_in_front r (first_after (n + 1) (total + length (given_by said)) saids) (events_said total (said ∷ [])) (given_by said) (events_said (total + length (given_by said)) saids) (answers_given saids)
     ∙ ap (λ events. unless_refused (or_later r (first_after (n + 1) (total + length (given_by said)) saids)) (scenario events)) (sym (events_said-cons total said saids))
     ∙ ap (λ f. unless_refused f (events_said total (said ∷ saids), answers_given (said ∷ saids))) (sym (first_after_cons n total said saids))
 
@@ -120,5 +121,31 @@ pub outcome_is : (saids : List (Option Said)) → outcome 0 0 saids ≡ unless_r
 unfolding refusal_after first_after
 outcome_is saids =
     let same : (i : ℕ) → refusal_after 0 0 saids i ≡ refusal_at saids i = λ i. rw (zero-add (i + 1), zero-add (length (answers_given (take (i + 1) saids)))) refl in
+    let equal : ◌≡◌ {A = ℕ → Option ScenarioRefusal} (refusal_after 0 0 saids) (refusal_at saids) = λ j i. same i j in
     outcome_after 0 0 saids
-    ∙ ap (λ f. unless_refused (first_some (map f (range_with_len 0 (length saids)))) (events_said 0 saids, answers_given saids)) (λ j i. same i j)
+    ∙ ap (λ (f : ℕ → Option ScenarioRefusal). unless_refused (first_some (map f (range_with_len 0 (length saids)))) (events_said 0 saids, answers_given saids)) equal
+
+-- A line that is not refused goes behind what was read.
+pub turn : (n : ℕ) (es es' : List Event) (vs vs' : List ℤ) (said : Option Said) (saids all : List (Option Said)) → all ≡ said ∷ saids
+    → line_refusal said (n + 1) (length vs + length (given_by said)) ≡ None → es' ≡ es ++ events_said (length vs) (said ∷ []) → vs' ≡ vs ++ given_by said
+    → behind es vs (outcome n (length vs) all) ≡ behind es' vs' (outcome (n + 1) (length vs') saids)
+turn n es es' vs vs' said saids all is fine events values =
+    let more = outcome (n + 1) (length vs + length (given_by said)) saids in
+    let count : length vs + length (given_by said) ≡ length vs' = sym (ap length values ∙ length-append vs (given_by said)) in
+    ap (λ ss. behind es vs (outcome n (length vs) ss)) is
+    ∙ ap (λ r. behind es vs (refused_or r (behind (events_said (length vs) (said ∷ [])) (given_by said) more))) fine
+    ∙ behind-behind es (events_said (length vs) (said ∷ [])) vs (given_by said) more
+    ∙ ap (λ s. behind s (vs ++ given_by said) more) (sym events)
+    ∙ ap (λ w. behind es' w more) (sym values)
+    ∙ ap (λ k. behind es' vs' (outcome (n + 1) k saids)) count
+
+-- A line that is refused ends the reading.
+pub refused : (n total : ℕ) (es : List Event) (vs : List ℤ) (said : Option Said) (saids all : List (Option Said)) (refusal : ScenarioRefusal) → all ≡ said ∷ saids
+    → line_refusal said (n + 1) (total + length (given_by said)) ≡ Some refusal → behind es vs (outcome n total all) ≡ Err refusal
+refused n total es vs said saids all refusal is why =
+    ap (λ ss. behind es vs (outcome n total ss)) is
+    ∙ ap (λ r. behind es vs (refused_or r (behind (events_said total (said ∷ [])) (given_by said) (outcome (n + 1) (total + length (given_by said)) saids)))) why
+
+-- Behind the last line nothing is to come.
+pub ended : (n total : ℕ) (es : List Event) (vs : List ℤ) (all : List (Option Said)) → all ≡ [] → behind es vs (outcome n total all) ≡ Ok (es, vs)
+ended n total es vs all is = ap (λ ss. behind es vs (outcome n total ss)) is ∙ behind-end es vs

@@ -5,3 +5,4 @@ pub mod Forms
 pub mod Readings
 pub mod Scenarios
 pub mod Fits
+pub mod Rules

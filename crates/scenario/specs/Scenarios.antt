@@ -19,7 +19,7 @@ saids_of drivers text = map (λ line. line_said drivers (words_of line)) (lines_
 abbrev pub given_by : Option Said → List ℤ
 given_by None = []
 given_by (Some nothing) = []
-given_by (Some (event e)) = []
+given_by (Some (event happens)) = []
 given_by (Some (answers port values)) = values
 
 -- All values, in the order of the lines.
@@ -52,7 +52,7 @@ abbrev pub events_said : ℕ → List (Option Said) → List Event
 events_said first [] = []
 events_said first (None ∷ saids) = events_said first saids
 events_said first (Some nothing ∷ saids) = events_said first saids
-events_said first (Some (event e) ∷ saids) = e ∷ events_said first saids
+events_said first (Some (event happens) ∷ saids) = happens ∷ events_said first saids
 events_said first (Some (answers port values) ∷ saids) = e.Answer port first (length values) ∷ events_said (first + length values) saids
 
 abbrev pub unless_refused : {A : Type 0} → Option ScenarioRefusal → A → Result A ScenarioRefusal

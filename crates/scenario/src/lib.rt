@@ -4,6 +4,7 @@
 mod event;
 mod forms;
 mod keywords;
+mod laws;
 mod lines;
 mod numbers;
 mod plan;
@@ -12,6 +13,7 @@ mod values;
 mod words;
 
 pub use event::{Event, KernelEvent};
+pub use laws::lines_read_by_their_rules;
 pub use plan::{Scenario, read_scenario};
 pub use refusal::{ScenarioLimit, ScenarioRefusal};
 

@@ -1,1 +1,10 @@
-
+pub mod Equations
+pub mod Outcomes
+pub mod FormValues
+pub mod Peeks
+mod Sample
+mod ExpressionExamples
+mod ConditionExamples
+mod StatementExamples
+mod StepExamples
+mod FlowExamples

@@ -51,11 +51,20 @@ pub data Side : Type 0 where
   OfOther : Side
 
 -- what is seen of an expression: which side it is, the facts on the edges of a branch on it, and its flow as a value and as a test
-pub record Seen : Type 0 where
-  pub side : Side
-  pub facts : Bool → Option LinearForm
-  pub value : Flow → Flow
-  pub test : Flow → Flow → Flow
+pub data Seen : Type 0 where
+  Saw : Side → (Bool → Option LinearForm) → (Flow → Flow) → (Flow → Flow → Flow) → Seen
+
+abbrev pub side_of : Seen → Side
+side_of (Saw side facts value test) = side
+
+abbrev pub facts_of : Seen → Bool → Option LinearForm
+facts_of (Saw side facts value test) = facts
+
+abbrev pub as_value : Seen → Flow → Flow
+as_value (Saw side facts value test) = value
+
+abbrev pub as_test : Seen → Flow → Flow → Flow
+as_test (Saw side facts value test) = test
 
 -- the types that promotion leaves
 abbrev pub is_unsigned : Scalar → Bool
@@ -148,7 +157,7 @@ branch facts holds fails = Splits (Meets (Finds (facts true)) holds) (Meets (Fin
 
 -- an expression that is a leaf of tests: it is evaluated, and branched on
 abbrev pub leaf : Side → (Bool → Option LinearForm) → (Flow → Flow) → Seen
-leaf side facts value = record { side = side; facts = facts; value = value; test = λ holds fails. value (branch facts holds fails) }
+leaf side facts value = Saw side facts value (λ holds fails. value (branch facts holds fails))
 
 -- an expression that tells no fact
 abbrev pub plain : (Flow → Flow) → Seen
@@ -161,28 +170,24 @@ negative_side _ scalar side = OfOther
 
 -- `!` exchanges the edges of its test; each other operator is a leaf
 abbrev pub unary_seen : Unary → Scalar → Seen → Seen
-unary_seen unary_op.Not scalar a = record (plain a.value) { test = λ holds fails. a.test fails holds }
-unary_seen unary_op.Plus scalar a = plain a.value
-unary_seen unary_op.Negative scalar a = leaf (negative_side unary_op.Negative scalar a.side) (λ _. None) a.value
-unary_seen unary_op.Complement scalar a = plain a.value
-unary_seen unary_op.Cast scalar a = plain a.value
+unary_seen unary_op.Not scalar a = Saw OfOther (λ _. None) (as_value a) (λ holds fails. as_test a fails holds)
+unary_seen unary_op.Plus scalar a = plain (as_value a)
+unary_seen unary_op.Negative scalar a = leaf (negative_side unary_op.Negative scalar (side_of a)) (λ _. None) (as_value a)
+unary_seen unary_op.Complement scalar a = plain (as_value a)
+unary_seen unary_op.Cast scalar a = plain (as_value a)
 
 -- `&&` and `||` as a value: one branch on the left side as its leaf. As a test their own leaves are taken apart
 abbrev pub logical_seen : Logic → Seen → Seen → Seen
-logical_seen logic_op.And a b = record {
-    side = OfOther; facts = λ _. None;
-    value = λ k. a.value (branch a.facts (b.value k) k);
-    test = λ holds fails. a.test (b.test holds fails) fails }
-logical_seen logic_op.Or a b = record {
-    side = OfOther; facts = λ _. None;
-    value = λ k. a.value (branch a.facts k (b.value k));
-    test = λ holds fails. a.test holds (b.test holds fails) }
+logical_seen logic_op.And a b =
+    Saw OfOther (λ _. None) (λ k. as_value a (branch (facts_of a) (as_value b k) k)) (λ holds fails. as_test a (as_test b holds fails) fails)
+logical_seen logic_op.Or a b =
+    Saw OfOther (λ _. None) (λ k. as_value a (branch (facts_of a) k (as_value b k))) (λ holds fails. as_test a holds (as_test b holds fails))
 
 -- the parts of a pointer sum, left to right
 abbrev pub sum_flow : PointerSum → Seen → Seen → Flow → Flow
-sum_flow PointerPlus p i k = p.value (i.value k)
-sum_flow PlusPointer p i k = i.value (p.value k)
-sum_flow PointerMinus p i k = p.value (i.value k)
+sum_flow PointerPlus p i k = as_value p (as_value i k)
+sum_flow PlusPointer p i k = as_value i (as_value p k)
+sum_flow PointerMinus p i k = as_value p (as_value i k)
 
 -- one level of an expression
 abbrev pub seen_level : List Shape → E.CheckedExpr-F Seen → Seen
@@ -190,16 +195,16 @@ seen_level slots (E.Number value scalar) = leaf (OfNumber value scalar) (λ _. N
 seen_level slots E.Null = leaf OfNull (λ _. None) (λ k. k)
 seen_level slots (E.Local slot) = leaf (OfSlot slot) (side_fact slots (OfSlot slot)) (λ k. k)
 seen_level slots (E.Block base) = plain (λ k. k)
-seen_level slots (E.Through pointer checks) = plain (λ k. pointer.value (checked checks k))
-seen_level slots (E.Element pointer index size checks) = plain (λ k. pointer.value (index.value (checked checks k)))
-seen_level slots (E.Field place offset checks) = plain (λ k. place.value (checked checks k))
-seen_level slots (E.Load scalar place) = plain place.value
-seen_level slots (E.AddressOf place) = plain place.value
+seen_level slots (E.Through pointer checks) = plain (λ k. as_value pointer (checked checks k))
+seen_level slots (E.Element pointer index size checks) = plain (λ k. as_value pointer (as_value index (checked checks k)))
+seen_level slots (E.Field place offset checks) = plain (λ k. as_value place (checked checks k))
+seen_level slots (E.Load scalar place) = plain (as_value place)
+seen_level slots (E.AddressOf place) = plain (as_value place)
 seen_level slots (E.Moved sum pointer by size checks) = plain (λ k. sum_flow sum pointer by (checked checks k))
 seen_level slots (E.Unary op scalar of) = unary_seen op scalar of
-seen_level slots (E.Binary op scalar left right checks) = plain (λ k. left.value (right.value (checked checks k)))
+seen_level slots (E.Binary op scalar left right checks) = plain (λ k. as_value left (as_value right (checked checks k)))
 seen_level slots (E.Compare op scalar left right) =
-    leaf OfOther (compare_fact slots op left.side right.side) (λ k. left.value (right.value k))
+    leaf OfOther (compare_fact slots op (side_of left) (side_of right)) (λ k. as_value left (as_value right k))
 seen_level slots (E.Logical op left right) = logical_seen op left right
 
 -- what is seen of an expression
@@ -208,7 +213,7 @@ seen slots e = fold-CheckedExpr Seen (seen_level slots) e
 
 -- the flow of an expression's value
 abbrev pub value_flow : CheckedFn → CheckedExpr → Flow → Flow
-value_flow f e k = (seen f.slots e).value k
+value_flow f e k = as_value (seen f.slots e) k
 
 abbrev pub arguments_flow : CheckedFn → List Argument → Flow → Flow
 arguments_flow f [] k = k
@@ -240,8 +245,8 @@ own_flow f (S.Call line target function values checks) = arguments_flow f values
 own_flow f (S.Kernel line target name values pointer function elem size) =
     arguments_flow f values (operand_flow f pointer (Meets (Assigns (target_slots target)) (Leaves true)))
 own_flow f (S.Return line value checks) = argument_flow f value (checked checks Ends)
-own_flow f (S.If line test first second) = (seen f.slots test).test (Leaves true) (Leaves false)
-own_flow f (S.While line test body) = (seen f.slots test).test (Leaves true) (Leaves false)
+own_flow f (S.If line test first second) = as_test (seen f.slots test) (Leaves true) (Leaves false)
+own_flow f (S.While line test body) = as_test (seen f.slots test) (Leaves true) (Leaves false)
 
 -- a node: what is left of the flow of a statement, and the statements to do after it, where its test holds and where not
 pub record Node : Type 0 where

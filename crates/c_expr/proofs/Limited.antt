@@ -42,22 +42,37 @@ pub division_fits : (t : Text) (ws : List Token) → IsDivision t ws → Follows
 division_fits t ws (n, f, r) = reached t (place n f ws []) r
 
 -- ---- what a word that passes no limit says
-cond_none : (b : Bool) (x : LimitKind) (o : Option LimitKind) → cond b (Some x) o ≡ None → (b ≡ false) × (o ≡ None)
-cond_none true x o e = cc
-cond_none false x o e = (refl, e)
+-- of two tests in a row that choose nothing the second fails
+second_fails : (b c : Bool) (x y : LimitKind) (o : Option LimitKind) → cond b (Some x) (cond c (Some y) o) ≡ None → c ≡ false
+second_fails true c x y o e = cc
+second_fails false true x y o e = cc
+second_fails false false x y o e = refl
+
+-- the limits behind that of nesting
+abbrev later : List Token → Word → Option LimitKind
+later a k = cond (is_sign is_unary k && nat_le 16 (unary_of a)) (Some limit.Unary) (cond (nat_lt 63 (name_length k)) (Some limit.Name) None)
 
 below : (m n : ℕ) → nat_le m n ≡ false → n < m
 below m n e = grind (arith, nat_tests)
 
 run_room : (a : List Token) (k : Word) → passed a k ≡ None → run_of a < 1000
-run_room a k e = let first = cond_none _ _ _ e in let second = cond_none _ _ _ first.1 in below 1000 (run_of a) second.0
+run_room a k e = below 1000 (run_of a)
+    (second_fails (nat_le 200000 (length a)) (nat_le 1000 (run_of a)) limit.Words limit.Run (cond (is_sign is_opening k && nat_le 64 (nesting_of a)) (Some limit.Nesting) (later a k)) e)
 
 opening_room : (o : Bool) (n : ℕ) → (o && nat_le 64 n) ≡ false → o ≡ true → n < 64
 opening_room true n e h = below 64 n e
 opening_room false n e h = cc
 
+-- of three tests in a row that choose nothing the third fails
+third_fails : (b c d : Bool) (x y z : LimitKind) (o : Option LimitKind) → cond b (Some x) (cond c (Some y) (cond d (Some z) o)) ≡ None → d ≡ false
+third_fails true c d x y z o e = cc
+third_fails false true d x y z o e = cc
+third_fails false false true x y z o e = cc
+third_fails false false false x y z o e = refl
+
 nesting_room : (a : List Token) (k : Word) → passed a k ≡ None → is_sign is_opening k ≡ true → nesting_of a < 64
-nesting_room a k e h = let first = cond_none _ _ _ e in let second = cond_none _ _ _ first.1 in let third = cond_none _ _ _ second.1 in opening_room (is_sign is_opening k) (nesting_of a) third.0 h
+nesting_room a k e h = opening_room (is_sign is_opening k) (nesting_of a)
+    (third_fails (nat_le 200000 (length a)) (nat_le 1000 (run_of a)) (is_sign is_opening k && nat_le 64 (nesting_of a)) limit.Words limit.Run limit.Nesting (later a k) e) h
 
 -- ---- counts behind one more word
 run_more : (a : List Token) (k : Token) → run_of (a ++ k ∷ []) ≡ run_after (run_of a) k.word

@@ -234,12 +234,12 @@ behind_end w x = ([], nothing_written, sym (append-nil (spelled x)))
 behind_more : (w u v : List Token) (x y z : Expr) (s : List Word) → spelled y ≡ spelled x ++ s → Written w u s → Behind u v y z → Behind w v x z
 behind_more w u v x y z s e p (r, q, f) = (s ++ r, both p q, f ∙ ap (λ k. k ++ r) e ∙ append_assoc (spelled x) s r)
 
-whole : {w u v : List Token} {x z : Expr} → Written w u (spelled x) → Behind u v x z → Written w v (spelled z)
-whole p (s, q, e) = written_as (sym e) (both p q)
+whole : {w u v : List Token} (x z : Expr) → Written w u (spelled x) → Behind u v x z → Written w v (spelled z)
+whole x z p (s, q, e) = written_as (sym e) (both p q)
 
 mutual
   pub row_written : {l : ℕ} {w v : List Token} {x : Expr} → Row l w v x → Written w v (spelled x)
-  row_written (row lt d m) = whole (row_written d) (more_written m)
+  row_written (row {x = x} {y = y} lt d m) = whole x y (row_written d) (more_written m)
   row_written (last_row e d) = unary_expression_written d
 
   more_written : {l : ℕ} {w v : List Token} {x z : Expr} → RowMore l x w v z → Behind w v x z
@@ -254,7 +254,7 @@ mutual
   unary_expression_written (plain d) = postfix_written d
 
   postfix_written : {w v : List Token} {x : Expr} → Postfix w v x → Written w v (spelled x)
-  postfix_written (postfix d m) = whole (primary_written d) (postfixes_written m)
+  postfix_written (postfix {x = x} {y = y} d m) = whole x y (primary_written d) (postfixes_written m)
 
   postfixes_written : {w v : List Token} {x z : Expr} → PostfixMore x w v z → Behind w v x z
   postfixes_written (postfix_end {w = w} {x = x}) = behind_end w x

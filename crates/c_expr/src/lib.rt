@@ -11,7 +11,6 @@ mod look;
 mod members;
 mod operators;
 mod reader;
-mod refusal;
 mod singles;
 mod sums;
 mod type_names;
@@ -20,5 +19,7 @@ pub use expressions::{closed, row, unary};
 pub use laws::{determines_words, one_expression, stands_before_any_words};
 pub use look::{after_keyword, after_sign, first_word, keyword_at, name_at, number_at};
 pub use reader::read_expr;
-pub use refusal::ReadRefusal;
 pub use type_names::{type_in_parens, type_name_at};
+
+#[cfg(test)]
+mod tests;

@@ -7,7 +7,7 @@ ghost use Rattle.c_tree.specs.ExpressionGrammar.{IsExpr};
 ghost use Rattle.c_tree.specs.Short.{IsShortExpr};
 
 use crate::expressions::row;
-use crate::refusal::ReadRefusal;
+use c_token::ReadRefusal;
 use c_tree::{Expr, Token};
 use std::alloc::Global;
 

@@ -1,0 +1,5 @@
+pub mod Arena
+pub mod Places
+pub mod GrantedBlocks
+pub mod GrantPartKept
+pub mod GrantServes

@@ -1,0 +1,2 @@
+pub mod BlockRows
+pub mod GrantPart

@@ -1,6 +1,6 @@
 -- Blocks that lie one behind the other: their bases rise, they end within the arena, and so they do with one more, one fewer, or one
 -- that is used for something else.
-use Rattle.std.proofs.Common.{◌≡◌, ℕ, zero, suc, ◌+◌, ◌*◌, ◌/◌, ◌<◌, ◌≤◌, List, [], ◌∷◌, ◌++◌, length, get_or, set, take, refl, ap, sym, ◌∙◌, subst, arith}
+use Rattle.std.proofs.Common.{◌≡◌, ℕ, zero, suc, ◌<◌, ◌≤◌, List, [], ◌∷◌, ◌++◌, length, get_or, set, take, refl, sym, subst, arith}
 use Rattle.std.specs.List.Sorted.{IsNonDecreasingBy}
 use Rattle.sd_base.specs.Blocks.{round_up}
 use Rattle.grant_table.specs.declared.blocks.BlockRow.{BlockRow}

@@ -1,17 +1,16 @@
 -- How the rows of blocks read the blocks that are granted, and how each entry changes them.
-use Rattle.std.proofs.Common.{◌≡◌, ◌≢◌, ℕ, zero, suc, ◌+◌, ◌-◌, ◌*◌, ◌/◌, ◌<◌, ◌≤◌, Bool, true, false, cond, not, ◌&&◌, ◌||◌, eqb, ltb, List, [], ◌∷◌, ◌++◌, map, length, get_or, set, reverse, take, ℤ, pos, negsuc, Option, Some, None, refl, ap, sym, ◌∙◌, subst, arith, length-append, get_or-set_same, get_or-set_other}
+use Rattle.std.proofs.Common.{◌≡◌, ◌≢◌, ℕ, ◌-◌, ◌≤◌, Bool, true, false, cond, not, eqb, List, [], ◌∷◌, ◌++◌, map, length, get_or, set, take, Option, Some, None, refl, ap, sym, ◌∙◌, subst, arith, length-append, get_or-set_same, get_or-set_other}
 use Rattle.std.proofs.lemmas.Bool.Decides.{nat_tests}
 use Rattle.std.proofs.lemmas.List.{length-reverse, length-map}
 use Rattle.std.specs.Option.{option_map}
 use Rattle.std.specs.List.{list_any, find}
-use Rattle.std.proofs.lemmas.List.Folds.{list_any-append}
 use Rattle.sd_base.specs.declared.history.BlockState.{BlockState}
-use Rattle.sd_base.specs.declared.history.BlockState.TheVariants.{Live, Freed, Image}
+use Rattle.sd_base.specs.declared.history.BlockState.TheVariants.{Freed}
 use Rattle.sd_base.specs.declared.history.Update.{Update}
 use Rattle.sd_base.specs.declared.history.Update.TheVariants.{Grant, Free, Line, Ports, Device, Param, Timer, Lock, Hold, Work, Taken, Mask, Clock}
-use Rattle.sd_base.specs.Selection.{without_first, without_last}
-use Rattle.sd_base.specs.History.{Entry, entry, History, OfBlocks, OfFrees, Key, same_resource, block_key, free_key, live_key, key_of, is_owner, is_of, after_entry, live_of, Without}
-use Rattle.sd_base.specs.Blocks.{Block, block_size, block_end, round_up, next_base, count_of, first_state, has_base, with_state, blocks_after, granted, is_image, is_freed}
+use Rattle.sd_base.specs.Selection.{without_first}
+use Rattle.sd_base.specs.History.{Entry, entry, History, OfBlocks, OfFrees, Key, same_resource, free_key, live_key, key_of, is_owner, is_of, after_entry, live_of, Without}
+use Rattle.sd_base.specs.Blocks.{Block, round_up, next_base, count_of, first_state, has_base, with_state, blocks_after, granted, is_freed}
 use Rattle.sd_base.proofs.Counting.{reverse-cons}
 use Rattle.sd_base.proofs.Removal.{list_any-reverse}
 use Rattle.sd_base.proofs.Live.{is_of-resource, apart-same, live_of-Without}

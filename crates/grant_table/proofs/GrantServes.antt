@@ -1,24 +1,23 @@
 -- Each call serves every lawful history of which the table holds its part.
-use Rattle.std.proofs.Common.{◌≡◌, ◌≢◌, ℕ, ◌+◌, ◌-◌, ◌*◌, ◌<◌, ◌≤◌, Bool, true, false, cond, not, ◌&&◌, ltb, List, [], ◌∷◌, ◌++◌, length, get_or, set, take, ℤ, pos, negsuc, Option, Some, None, Result, Ok, Err, IfSome, OnOk, refl, ap, sym, ◌∙◌, subst, arith}
+use Rattle.std.proofs.Common.{◌≡◌, ℕ, ◌-◌, ◌≤◌, Bool, true, false, cond, List, [], ◌∷◌, ◌++◌, length, get_or, set, take, ℤ, pos, negsuc, Option, Some, None, Result, Ok, Err, IfSome, OnOk, refl, ap, sym, ◌∙◌, subst, arith}
 use Rattle.std.specs.Option.{option_map}
 use Rattle.std.specs.List.{list_any, find}
 use Rattle.sd_base.specs.declared.history.BlockState.TheVariants.{Live, Freed as StateFreed}
 use Rattle.sd_base.specs.declared.history.Layout.{Layout}
-use Rattle.sd_base.specs.declared.history.Update.{Update}
 use Rattle.sd_base.specs.declared.history.Update.TheVariants.{Grant, Free}
 use Rattle.sd_base.specs.Selection.{without_first}
-use Rattle.sd_base.specs.History.{Entry, entry, History, block_key, free_key, is_of, live_of, clock_of, Without}
-use Rattle.sd_base.specs.Blocks.{Block, block_size, next_base, count_of, first_state, has_base, with_state, blocks_after, granted, has_room, is_image, is_freed}
-use Rattle.sd_base.specs.Allowed.{free_refusal, refusal, refusal_on, IsLawful, IsProper}
+use Rattle.sd_base.specs.History.{Entry, entry, block_key, free_key, is_of, live_of, clock_of, Without}
+use Rattle.sd_base.specs.Blocks.{Block, next_base, count_of, first_state, has_base, granted, has_room, is_image, is_freed}
+use Rattle.sd_base.specs.Allowed.{free_refusal, refusal_on}
 use Rattle.sd_base.specs.Part.{Serves, Loses, Forgets}
 use Rattle.sd_base.specs.Sound.{IsSound}
 use Rattle.sd_base.proofs.SoundLive.{lawful_sound}
 use Rattle.grant_table.specs.declared.blocks.BlockRow.{BlockRow}
 use Rattle.grant_table.specs.declared.blocks.ReleaseRefusal.{ReleaseRefusal}
 use Rattle.grant_table.specs.declared.blocks.ReleaseRefusal.TheVariants.{NotBlock, Freed}
-use Rattle.grant_table.specs.BlockRows.{next_base_of, base_for, block_row_of, row_has_base, with_state_of, release_of, release_answer, is_freed_row, is_freed_at, ends_with}
+use Rattle.grant_table.specs.BlockRows.{next_base_of, base_for, block_row_of, with_state_of, release_of, release_answer, is_freed_row, is_freed_at}
 use Rattle.grant_table.specs.GrantPart.{block_row, rows_of, HoldsGrants, no_room, not_released, OfEachHistory}
-use Rattle.grant_table.proofs.GrantedBlocks.{IsStack, granted_stack, granted_own, granted_others, granted-without_of, granted-without_block, granted-without_free, WasFreed, but_newest}
+use Rattle.grant_table.proofs.GrantedBlocks.{granted_stack, granted_own, granted_others, granted-without_of, granted-without_block, granted-without_free, WasFreed}
 use Rattle.grant_table.proofs.GrantPartKept.{rows_push, next_rows, length_rows, find_rows, state_rows, take_rows, set_rows, granted-live_of, owner_goes, is_freed_block, never_freed}
 
 room_rule : (bs : List Block) (layout : Layout) (n : ℤ) → no_room (base_for (rows_of bs) layout.size n) ≡ cond (has_room bs layout n) None (no_room None)

@@ -1,22 +1,20 @@
 -- The blocks that live entries grant: they lie one behind the other, what takes one away, and what brings a freed one back.
-use Rattle.std.proofs.Common.{◌≡◌, ◌≢◌, ℕ, zero, suc, ◌+◌, ◌*◌, ◌/◌, ◌<◌, ◌≤◌, Bool, true, false, cond, not, ◌&&◌, ◌||◌, eqb, ltb, List, [], ◌∷◌, ◌++◌, map, length, get_or, set, reverse, take, ◌-◌, ℤ, pos, negsuc, Option, Some, None, refl, ap, sym, ◌∙◌, subst, arith}
+use Rattle.std.proofs.Common.{◌≡◌, ◌≢◌, ℕ, ◌<◌, ◌≤◌, true, false, cond, not, ◌||◌, eqb, List, [], ◌∷◌, ℤ, pos, negsuc, Some, None, refl, ap, sym, ◌∙◌, subst, arith}
 use Rattle.std.proofs.Math.Nat.{mul-pos}
-use Rattle.std.proofs.lemmas.Bool.Decides.{nat_tests, Decides-int_eq}
+use Rattle.std.proofs.lemmas.Bool.Decides.{nat_tests}
 use Rattle.std.specs.List.{list_any, find}
 use Rattle.sd_base.specs.declared.history.BlockState.{BlockState}
 use Rattle.sd_base.specs.declared.history.BlockState.TheVariants.{Live, Freed, Image}
 use Rattle.sd_base.specs.declared.history.Layout.{Layout}
-use Rattle.sd_base.specs.declared.history.Refusal.{Refusal}
 use Rattle.sd_base.specs.declared.history.Refusal.TheVariants.{NotBlock, Freed as RefusedFreed}
 use Rattle.sd_base.specs.declared.history.Update.{Update}
 use Rattle.sd_base.specs.declared.history.Update.TheVariants.{Grant, Free}
 use Rattle.sd_base.specs.Selection.{without_first}
-use Rattle.sd_base.specs.History.{Entry, entry, History, Resource, OfBlocks, OfFrees, Key, same_resource, block_key, free_key, live_key, key_of, is_owner, is_of, Role, Begins, Replaces, Ends, EndsOldest, Passes, role_of, after_role, after_entry, live_of}
+use Rattle.sd_base.specs.History.{Entry, entry, Key, block_key, free_key, is_owner, is_of}
 use Rattle.sd_base.specs.Blocks.{Block, block_size, block_end, round_up, next_base, count_of, first_state, has_base, with_state, blocks_after, granted, has_room, is_image, is_freed}
 use Rattle.sd_base.specs.Allowed.{free_refusal}
 use Rattle.sd_base.specs.Sound.{BlockAllowed, BlocksAllowed}
-use Rattle.sd_base.proofs.Live.{is_of-owner, is_of-resource, apart-same}
-use Rattle.sd_base.proofs.Granted.{leaves, granted-without_first_other, granted-without_last_other}
+use Rattle.sd_base.proofs.Live.{is_of-owner}
 
 -- the blocks, the newest first, lie one behind the other, and each has a byte
 abbrev pub IsStack : List Block → Type 0

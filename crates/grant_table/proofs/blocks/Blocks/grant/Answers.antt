@@ -1,6 +1,6 @@
-use Rattle.std.proofs.Common.{◌≡◌, ◌+◌, ◌*◌, ◌<◌, ◌≤◌, ◌++◌, [], ◌∷◌, ℕ, length, length-append, sym, ap, ◌∙◌, subst, rules, arith}
+use Rattle.std.proofs.Common.{◌+◌, ◌*◌, ◌<◌, ◌≤◌, sym, ap, ◌∙◌, subst, rules, arith}
 use Rattle.std.proofs.Math.Nat.{mul-pos}
-use Rattle.grant_table.specs.BlockRows.{row_end, next_base_of, IsArena}
+use Rattle.grant_table.specs.BlockRows.{next_base_of, IsArena}
 use Rattle.grant_table.proofs.Arena.{arena_push}
 use Rattle.grant_table.proofs.blocks.Blocks.grant.Goals as goal
 

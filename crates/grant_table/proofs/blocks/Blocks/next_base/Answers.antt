@@ -1,4 +1,4 @@
-use Rattle.std.proofs.Common.{◌≡◌, ◌+◌, ◌-◌, ◌*◌, ◌/◌, ◌<◌, ◌≤◌, ℕ, suc, length, get_or, sym, ap, ◌∙◌, rules, arith}
+use Rattle.std.proofs.Common.{◌≡◌, ◌-◌, ◌≤◌, get_or, sym, ap, ◌∙◌, rules, arith}
 use Rattle.sd_base.specs.Blocks.{round_up}
 use Rattle.grant_table.specs.declared.blocks.BlockRow.{BlockRow}
 use Rattle.grant_table.specs.BlockRows.{row_end, next_base_of}

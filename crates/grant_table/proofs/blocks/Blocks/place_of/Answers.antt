@@ -1,7 +1,7 @@
 -- The binary search finds the first block whose base is not smaller; the bases rise, so it is the one or there is none.
-use Rattle.std.proofs.Common.{◌≡◌, ◌≢◌, ◌<◌, ◌≤◌, ℕ, List, true, false, ltb, length, get_or, sym, ap, ◌∙◌, subst, rules, arith}
+use Rattle.std.proofs.Common.{◌≡◌, ◌≢◌, ◌<◌, ◌≤◌, List, false, ltb, length, get_or, sym, ap, ◌∙◌, subst, rules, arith}
 use Rattle.std.specs.List.{list_any}
-use Rattle.std.specs.List.Sorted.{IsNonDecreasingBy, IsPartitionedBy, IsPartitionPoint}
+use Rattle.std.specs.List.Sorted.{IsNonDecreasingBy, IsPartitionedBy}
 use Rattle.std.proofs.lemmas.List.Sorted.{IsPartitionPoint-from_clause, IsPartitionedBy-ltb}
 use Rattle.grant_table.specs.declared.blocks.BlockRow.{BlockRow}
 use Rattle.grant_table.specs.BlockRows.{row_has_base, IsFirstPlace}

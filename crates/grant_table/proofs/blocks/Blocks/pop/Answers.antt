@@ -1,4 +1,4 @@
-use Rattle.std.proofs.Common.{◌-◌, length, vec_len, take, sym, subst, arith}
+use Rattle.std.proofs.Common.{◌-◌, vec_len, sym, subst, arith}
 use Rattle.grant_table.specs.BlockRows.{IsArena}
 use Rattle.grant_table.proofs.Arena.{arena_take}
 use Rattle.grant_table.proofs.blocks.Blocks.pop.Goals as goal

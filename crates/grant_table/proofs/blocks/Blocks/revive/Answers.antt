@@ -1,7 +1,6 @@
-use Rattle.std.proofs.Common.{◌≡◌, ◌≤◌, length, length-set, sym, ap, rules, arith}
-use Rattle.sd_base.specs.declared.history.BlockState.TheVariants.{Image, Live, Freed}
-use Rattle.grant_table.specs.BlockRows.{row_has_base, release_of}
-use Rattle.grant_table.proofs.Places.{find_none, state_none, answer_at, state_set, arena_kept}
+use Rattle.std.proofs.Common.{length-set, sym, rules}
+use Rattle.sd_base.specs.declared.history.BlockState.TheVariants.{Live}
+use Rattle.grant_table.proofs.Places.{state_none, state_set, arena_kept}
 use Rattle.grant_table.proofs.blocks.Blocks.revive.Goals as goal
 
 pub invariant_of-self : goal.invariant_of-self

@@ -1,4 +1,4 @@
-use Rattle.std.proofs.Common.{◌≡◌, length, sym, ap, ◌∙◌, rules}
+use Rattle.std.proofs.Common.{length, sym, ap, ◌∙◌, rules}
 use Rattle.grant_table.proofs.GrantServes.{drop_forgets}
 use Rattle.grant_table.proofs.grants.Grants.drop_rows.Goals as goal
 

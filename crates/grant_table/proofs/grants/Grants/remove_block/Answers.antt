@@ -1,9 +1,6 @@
-use Rattle.std.proofs.Common.{◌≡◌, ◌-◌, ◌++◌, [], ◌∷◌, List, length, get_or, set, take, IfSome, OnOk, sym, ap, ◌∙◌, rules, arith}
+use Rattle.std.proofs.Common.{length, sym, ap, ◌∙◌, rules, arith}
 use Rattle.std.proofs.lemmas.Grind.{common_steps}
 use Rattle.std.proofs.lemmas.List.{get_or_default}
-use Rattle.sd_base.specs.declared.history.BlockState.TheVariants.{Live, Freed}
-use Rattle.sd_base.specs.Blocks.{first_state}
-use Rattle.grant_table.specs.BlockRows.{base_for, block_row_of, release_answer, with_state_of}
 use Rattle.grant_table.proofs.GrantServes.{block_loses}
 use Rattle.grant_table.proofs.grants.Grants.remove_block.Goals as goal
 

@@ -1,9 +1,8 @@
 -- How a list of words begins: a phrase takes words away, and two beginnings agree.
-use Rattle.std.proofs.Common.{◌≡◌, ℕ, ◌<◌, List, [], ◌∷◌, length, Bool, IsTrue, subst, arith}
+use Rattle.std.proofs.Common.{◌≡◌, ◌<◌, List, [], ◌∷◌, length, Bool, IsTrue, subst, arith}
 use Rattle.c_tree.specs.declared.words.Token.{Token}
 use Rattle.c_tree.specs.declared.words.Word.{Word}
-use Rattle.c_tree.specs.Reading.{Front, front_of, Begins}
-use Rattle.c_tree.specs.Reading.Front.{nothing, front}
+use Rattle.c_tree.specs.Reading.{Begins}
 use Rattle.c_expr.specs.Classes.{begins_in, At}
 
 -- the words after the first are fewer

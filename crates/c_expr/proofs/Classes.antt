@@ -1,12 +1,12 @@
 -- Which classes of words lie in which, and which are apart.
-use Rattle.std.proofs.Common.{◌≡◌, List, [], ◌∷◌, Bool, IsTrue, true, false, refl}
+use Rattle.std.proofs.Common.{List, [], ◌∷◌, Bool, IsTrue, refl}
 use Rattle.c_tree.specs.declared.keywords.Keyword.TheVariants as keyword
 use Rattle.c_tree.specs.declared.signs.Sign.TheVariants as sign
 use Rattle.c_tree.specs.declared.words.Token.{Token}
 use Rattle.c_tree.specs.declared.words.Word.{Word}
 use Rattle.c_tree.specs.declared.words.Word.TheVariants as word
-use Rattle.c_tree.specs.Reading.{front_of, Begins}
-use Rattle.c_expr.specs.Classes.{begins_in, At, is_star, is_plus_or_minus, is_in_sums, is_annotation, is_after_unsigned, is_in_types}
+use Rattle.c_tree.specs.Reading.{Begins}
+use Rattle.c_expr.specs.Classes.{At, is_star, is_plus_or_minus, is_in_sums, is_annotation, is_after_unsigned, is_in_types}
 use Rattle.c_expr.proofs.Begins.{in_class}
 
 pub at_weaker : (c d : Word → Bool) → ((k : Word) → IsTrue (c k) → IsTrue (d k)) → (v : List Token) → At c v → At d v

@@ -1,6 +1,6 @@
 -- Each list of words has its longest expression, or none: what the reader answers where memory is not wanting. So a list
 -- of words is at most one expression.
-use Rattle.std.proofs.Common.{◌≡◌, ℕ, ◌+◌, ◌-◌, ◌<◌, ◌≤◌, ◌⊎◌, List, [], length, Option, None, Some, Bool, true, false, refl, sym, ◌∙◌, subst, inl, inr, le_refl, zero, suc, arith}
+use Rattle.std.proofs.Common.{◌≡◌, ℕ, ◌+◌, ◌-◌, ◌<◌, ◌≤◌, ◌⊎◌, List, [], length, Option, None, Some, Bool, true, false, refl, sym, ◌∙◌, inl, inr, le_refl, zero, suc, arith}
 use Rattle.c_tree.specs.declared.expressions.Binary.{Binary}
 use Rattle.c_tree.specs.declared.expressions.Expr.{Expr}
 use Rattle.c_tree.specs.declared.expressions.Expr.TheVariants as expr
@@ -13,14 +13,14 @@ use Rattle.c_tree.specs.declared.words.Token.{Token}
 use Rattle.c_tree.specs.declared.words.Word.TheVariants as word
 use Rattle.c_tree.specs.ExpressionGrammar.{SingleAt, NullAt, Row, RowMore, UnaryExpr, Postfix, PostfixMore, Primary, Closed, IsExpr}
 use Rattle.c_tree.specs.Operators.{UnaryAt, BinaryAt, row_of, rows}
-use Rattle.c_tree.specs.Reading.{Begins, Best, Within, Covered, Never, Enclosed, enclosed}
+use Rattle.c_tree.specs.Reading.{Begins, Best, Covered, Never, enclosed}
 use Rattle.c_tree.specs.TypeGrammar.{InParens}
 use Rattle.c_expr.specs.declared.members.Member.{Member}
 use Rattle.c_expr.specs.declared.members.Member.TheVariants as member
 use Rattle.c_expr.specs.ExpressionReading.{opens_type, null_of}
 use Rattle.c_expr.specs.Members.{IsMemberAt, selected}
 use Rattle.c_expr.specs.Looking.{Lacks}
-use Rattle.c_expr.specs.Strength.{sign_strength, strength_at, Tighter}
+use Rattle.c_expr.specs.Strength.{sign_strength, Tighter}
 use Rattle.c_expr.proofs.Begins.{begins_shrinks}
 use Rattle.c_expr.proofs.LongestPostfix.{NoMember, postfix_stays, postfix_stuck, member_on, index_on, postfix_none, postfix_on}
 use Rattle.c_expr.proofs.LongestPrimary.{NoSingle, null_there, null_missing, primary_single, primary_null, primary_none, primary_open, primary_grouped, closed_none, closed_open, closed_shut}

@@ -1,5 +1,5 @@
 -- What expressions and type names begin with, and that a cast begins as no other expression does.
-use Rattle.std.proofs.Common.{◌≡◌, ℕ, ◌+◌, List, Option, None, Some, Bool, IsTrue, true, false, refl, sym, subst}
+use Rattle.std.proofs.Common.{◌≡◌, ℕ, ◌+◌, List, Some, Bool, IsTrue, true, refl, sym, subst}
 use Rattle.c_tree.specs.declared.expressions.Expr.{Expr}
 use Rattle.c_tree.specs.declared.expressions.Unary.{Unary}
 use Rattle.c_tree.specs.declared.keywords.Keyword.TheVariants as keyword
@@ -11,10 +11,10 @@ use Rattle.c_tree.specs.declared.words.Token.{Token}
 use Rattle.c_tree.specs.declared.words.Word.{Word}
 use Rattle.c_tree.specs.declared.words.Word.TheVariants as word
 use Rattle.c_tree.specs.Operators.{unary_of, UnaryAt}
-use Rattle.c_tree.specs.Reading.{Front, front_of, Begins, Enclosed, enclosed}
-use Rattle.c_tree.specs.Reading.Front.{nothing, front}
+use Rattle.c_tree.specs.Reading.{Begins, enclosed}
+use Rattle.c_tree.specs.Reading.Front.{front}
 use Rattle.c_tree.specs.TypeGrammar.{BaseAt, char, signed_char, unsigned_char, short, unsigned_short, int, long, unsigned, unsigned_int, unsigned_long, structure, TypeNameAt, type_name, InParens}
-use Rattle.c_tree.specs.ExpressionGrammar.{single_of, SingleAt, NullAt, null, Row, row, last_row, UnaryExpr, prefixed, cast, size_of, plain, Postfix, postfix, Primary, single, grouped, null_constant, Closed, closed}
+use Rattle.c_tree.specs.ExpressionGrammar.{single_of, null, Row, row, last_row, UnaryExpr, prefixed, cast, size_of, plain, Postfix, postfix, Primary, single, grouped, null_constant, Closed, closed}
 use Rattle.c_expr.specs.Classes.{begins_in, At, is_base, is_primary, is_expression}
 use Rattle.c_expr.specs.ExpressionReading.{front_opens_type, opens_type}
 use Rattle.c_expr.proofs.Begins.{in_class}

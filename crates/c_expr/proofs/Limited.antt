@@ -1,5 +1,5 @@
 -- What an expression takes from the limits of the text that it stands in: it is short.
-use Rattle.std.proofs.Common.{◌≡◌, ℕ, ◌+◌, ◌-◌, ◌<◌, ◌≤◌, List, [], ◌∷◌, ◌++◌, length, take, drop, slice_range, map, fold, Bool, true, false, cond, ◌&&◌, nat_le, nat_lt, Option, None, Some, All, refl, ap, sym, ◌∙◌, subst, append_assoc, append-nil, take-append-drop, leb-false, zero, suc, arith}
+use Rattle.std.proofs.Common.{◌≡◌, ℕ, ◌+◌, ◌-◌, ◌<◌, ◌≤◌, List, [], ◌∷◌, ◌++◌, length, take, drop, slice_range, fold, Bool, true, false, cond, ◌&&◌, nat_le, nat_lt, Option, None, Some, All, refl, ap, sym, ◌∙◌, subst, append_assoc, append-nil, take-append-drop, suc, arith}
 use Rattle.std.proofs.lemmas.Bool.Decides.{nat_tests}
 use Rattle.std.proofs.lemmas.List.Sums.{fold-append}
 use Rattle.std.proofs.lemmas.List.Elements.{All-nil, All-cons}
@@ -11,10 +11,9 @@ use Rattle.c_tree.specs.declared.words.Word.{Word}
 use Rattle.c_tree.specs.Bytes.{Text}
 use Rattle.c_tree.specs.Division.{Place, place, Step, takes_gap, takes_word, Reaches, starts, goes, IsDivision, token}
 use Rattle.c_tree.specs.ExpressionGrammar.{IsExpr}
-use Rattle.c_tree.specs.Limits.{is_sign, ends_run, is_opening, is_closing, is_unary, run_after, run_of, nesting_after, nesting_of, unary_of, strings_of, name_length, passed_at, passed}
-use Rattle.c_tree.specs.Short.{IsWritten, open_behind, IsShortExpr}
+use Rattle.c_tree.specs.Limits.{is_sign, is_opening, is_closing, is_unary, run_after, run_of, nesting_after, nesting_of, unary_of, strings_of, name_length, passed}
+use Rattle.c_tree.specs.Short.{IsWritten, IsShortExpr}
 use Rattle.c_tree.specs.Spelling.{spelled}
-use Rattle.c_tree.specs.Words.{WordAt, Longest}
 use Rattle.c_expr.specs.Tokens.{words_of}
 use Rattle.c_expr.proofs.Spelled.{Quiet, row_written, tree_words}
 

@@ -1,12 +1,12 @@
 -- `base_of` gives the longest base.
-use Rattle.std.proofs.Common.{◌≡◌, ℕ, ◌<◌, List, length, Option, None, Some, IfSome, refl, sym, subst, inl, inr, arith}
+use Rattle.std.proofs.Common.{◌≡◌, List, Option, IfSome, refl, sym, subst, inl, inr}
 use Rattle.c_tree.specs.declared.keywords.Keyword.TheVariants as keyword
 use Rattle.c_tree.specs.declared.types.Base.{Base}
 use Rattle.c_tree.specs.declared.types.Base.TheVariants as base
 use Rattle.c_tree.specs.declared.words.Token.{Token}
 use Rattle.c_tree.specs.declared.words.Word.TheVariants as word
 use Rattle.c_tree.specs.Reading.{Front, front_of, Begins, Best, Within, Covered}
-use Rattle.c_tree.specs.Reading.Front.{nothing, front}
+use Rattle.c_tree.specs.Reading.Front.{front}
 use Rattle.c_tree.specs.TypeGrammar.{BaseAt, char, signed_char, unsigned_char, short, unsigned_short, int, long, unsigned, unsigned_int, unsigned_long, structure}
 use Rattle.c_expr.specs.Classes.{At, is_after_unsigned}
 use Rattle.c_expr.specs.TypeReading.{base_of, base_of_front, signed_base_after, unsigned_after, struct_after}

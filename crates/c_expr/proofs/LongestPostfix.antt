@@ -1,5 +1,5 @@
 -- The longest postfix expression, one lemma for each way in which a reader goes on or ends.
-use Rattle.std.proofs.Common.{◌≡◌, ℕ, ◌+◌, ◌<◌, ◌≤◌, List, length, Option, None, Some, refl, ap, sym, subst, inl, inr, lit<, arith}
+use Rattle.std.proofs.Common.{◌≡◌, ℕ, ◌+◌, ◌<◌, ◌≤◌, List, length, None, Some, refl, ap, sym, subst, inl, inr, arith}
 use Rattle.c_tree.specs.declared.expressions.Expr.{Expr}
 use Rattle.c_tree.specs.declared.expressions.Expr.TheVariants as expr
 use Rattle.c_tree.specs.declared.signs.Sign.{Sign}
@@ -7,14 +7,13 @@ use Rattle.c_tree.specs.declared.signs.Sign.TheVariants as sign
 use Rattle.c_tree.specs.declared.words.Token.{Token}
 use Rattle.c_tree.specs.declared.words.Word.TheVariants as word
 use Rattle.c_tree.specs.Operators.{rows}
-use Rattle.c_tree.specs.Reading.{front_of, Begins, Best, Within, Never}
+use Rattle.c_tree.specs.Reading.{Begins, Best, Within, Never}
 use Rattle.c_tree.specs.ExpressionGrammar.{Postfix, postfix, PostfixMore, postfix_end, field, arrow, index, Primary, Closed}
 use Rattle.c_expr.specs.declared.members.Member.{Member}
 use Rattle.c_expr.specs.declared.members.Member.TheVariants as member
 use Rattle.c_expr.specs.Looking.{Lacks}
 use Rattle.c_expr.specs.Members.{IsMemberAt, selected}
 use Rattle.c_expr.specs.Strength.{front_strength, strength_at, sign_strength, Tighter}
-use Rattle.c_expr.proofs.Begins.{begins_shrinks}
 use Rattle.c_expr.proofs.Chains.{best_none}
 
 -- the words begin with no field

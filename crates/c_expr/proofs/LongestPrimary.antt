@@ -1,6 +1,6 @@
 -- The longest primary expression, and an expression with the sign that closes it, one lemma for each way in which a
 -- reader ends.
-use Rattle.std.proofs.Common.{◌≡◌, ℕ, ◌<◌, List, Option, None, Some, option_map, IfSome, refl, ap, sym, ◌∙◌, subst, inl, inr, zero, arith}
+use Rattle.std.proofs.Common.{◌≡◌, List, Option, None, Some, IfSome, refl, ap, sym, subst, inl, inr, zero, arith}
 use Rattle.c_tree.specs.declared.expressions.Expr.{Expr}
 use Rattle.c_tree.specs.declared.expressions.Expr.TheVariants as expr
 use Rattle.c_tree.specs.declared.keywords.Keyword.TheVariants as keyword
@@ -8,12 +8,11 @@ use Rattle.c_tree.specs.declared.signs.Sign.{Sign}
 use Rattle.c_tree.specs.declared.signs.Sign.TheVariants as sign
 use Rattle.c_tree.specs.declared.words.Suffix.TheVariants as suffix
 use Rattle.c_tree.specs.declared.words.Token.{Token}
-use Rattle.c_tree.specs.declared.words.Word.{Word}
 use Rattle.c_tree.specs.declared.words.Word.TheVariants as word
 use Rattle.c_tree.specs.Reading.{Front, front_of, Begins, Best, Within, Never}
-use Rattle.c_tree.specs.Reading.Front.{nothing, front}
+use Rattle.c_tree.specs.Reading.Front.{front}
 use Rattle.c_tree.specs.ExpressionGrammar.{single_of, SingleAt, NullAt, null, Row, Primary, single, grouped, null_constant, Closed, closed}
-use Rattle.c_expr.specs.Classes.{At, is_expression}
+use Rattle.c_expr.specs.Classes.{is_expression}
 use Rattle.c_expr.specs.ExpressionReading.{null_of, null_front, null_void, null_star, null_close, null_zero}
 use Rattle.c_expr.specs.Looking.{Lacks}
 use Rattle.c_expr.specs.Strength.{front_strength, strength_at, sign_strength, Tighter}

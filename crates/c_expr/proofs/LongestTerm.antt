@@ -10,7 +10,7 @@ use Rattle.c_tree.specs.declared.words.Suffix.{Suffix}
 use Rattle.c_tree.specs.declared.words.Token.{Token}
 use Rattle.c_tree.specs.declared.words.Word.TheVariants as word
 use Rattle.c_tree.specs.Reading.{Front, front_of, Begins, Best, Within, Covered}
-use Rattle.c_tree.specs.Reading.Front.{nothing, front}
+use Rattle.c_tree.specs.Reading.Front.{front}
 use Rattle.c_tree.specs.TypeGrammar.{TermAt, number, name, product, SignedAt, plus, minus, FirstTermAt, first, negative_first, AddrAt, pointer, offset}
 use Rattle.c_expr.specs.Classes.{At, is_star, is_plus_or_minus, is_in_sums}
 use Rattle.c_expr.specs.TypeReading.{product_after, number_after, term_of, term_of_front, with_sign, signed_of, signed_of_front, first_of, first_of_front, addr_after, addr_of, addr_of_front}

@@ -1,5 +1,5 @@
 -- The longest sum, annotation, star and type name, one lemma for each way in which a reader ends.
-use Rattle.std.proofs.Common.{◌≡◌, ◌≢◌, ℕ, ◌<◌, ◌≤◌, List, [], ◌∷◌, length, Option, None, Some, IfSome, refl, ap, sym, ◌∙◌, subst, inl, inr, arith}
+use Rattle.std.proofs.Common.{◌≡◌, ◌≢◌, ◌<◌, ◌≤◌, List, [], ◌∷◌, length, None, Some, refl, ap, ◌∙◌, subst, inl, inr}
 use Rattle.c_tree.specs.declared.keywords.Keyword.{Keyword}
 use Rattle.c_tree.specs.declared.keywords.Keyword.TheVariants as keyword
 use Rattle.c_tree.specs.declared.signs.Sign.TheVariants as sign

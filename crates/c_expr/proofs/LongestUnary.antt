@@ -1,18 +1,15 @@
 -- The longest unary expression, one lemma for each way in which a reader ends.
-use Rattle.std.proofs.Common.{◌≡◌, ℕ, ◌<◌, List, length, Option, None, Some, IfSome, Bool, true, false, refl, ap, sym, ◌∙◌, subst, inl, inr, arith}
+use Rattle.std.proofs.Common.{◌≡◌, List, Option, None, Some, IfSome, true, false, refl, ap, sym, ◌∙◌, subst, inl, inr}
 use Rattle.c_tree.specs.declared.expressions.Expr.{Expr}
 use Rattle.c_tree.specs.declared.expressions.Expr.TheVariants as expr
 use Rattle.c_tree.specs.declared.expressions.Unary.{Unary}
 use Rattle.c_tree.specs.declared.keywords.Keyword.TheVariants as keyword
-use Rattle.c_tree.specs.declared.signs.Sign.TheVariants as sign
 use Rattle.c_tree.specs.declared.types.TypeName.{TypeName}
 use Rattle.c_tree.specs.declared.words.Token.{Token}
-use Rattle.c_tree.specs.declared.words.Word.{Word}
 use Rattle.c_tree.specs.declared.words.Word.TheVariants as word
-use Rattle.c_tree.specs.Operators.{unary_of, UnaryAt, rows}
-use Rattle.c_tree.specs.Reading.{Front, front_of, Begins, Best, Within, Covered, Never, Enclosed, enclosed}
-use Rattle.c_tree.specs.Reading.Front.{nothing, front}
-use Rattle.c_tree.specs.TypeGrammar.{TypeNameAt, InParens}
+use Rattle.c_tree.specs.Operators.{UnaryAt, rows}
+use Rattle.c_tree.specs.Reading.{Begins, Best, Within, Never}
+use Rattle.c_tree.specs.TypeGrammar.{InParens}
 use Rattle.c_tree.specs.ExpressionGrammar.{UnaryExpr, prefixed, cast, size_of, plain, Postfix}
 use Rattle.c_expr.specs.ExpressionReading.{opens_type}
 use Rattle.c_expr.specs.Looking.{Lacks}

@@ -1,11 +1,11 @@
 -- From what stands after a phrase to the place where it ends.
-use Rattle.std.proofs.Common.{◌≡◌, ℕ, ◌+◌, ◌-◌, ◌<◌, ◌≤◌, ◌⊎◌, List, [], ◌∷◌, ◌++◌, length, take, drop, slice_range, None, Some, refl, ap, sym, ◌∙◌, subst, inl, inr, append-nil, length-append, length-drop, length-take, take-append-drop, zero, suc, arith}
+use Rattle.std.proofs.Common.{◌≡◌, ℕ, ◌+◌, ◌-◌, ◌<◌, ◌≤◌, ◌⊎◌, List, [], ◌∷◌, ◌++◌, length, take, drop, slice_range, None, Some, refl, ap, sym, ◌∙◌, subst, inl, inr, append-nil, length-append, length-drop, take-append-drop, arith}
 use Rattle.c_tree.specs.declared.expressions.Expr.{Expr}
 use Rattle.c_tree.specs.declared.words.Token.{Token}
 use Rattle.c_tree.specs.Reading.{Best, Within}
 use Rattle.c_tree.specs.ExpressionGrammar.{Row, IsExpr}
 use Rattle.c_expr.specs.Strength.{Tighter}
-use Rattle.c_expr.proofs.Spans.{Span, row_span}
+use Rattle.c_expr.proofs.Spans.{row_span}
 
 -- the front part of a list
 front_part : {A : Type 0} (s v : List A) → take (length s) (s ++ v) ≡ s

@@ -1,5 +1,5 @@
 -- A phrase is a span of words, and is one whatever stands after it.
-use Rattle.std.proofs.Common.{◌≡◌, ℕ, ◌+◌, ◌≤◌, List, [], ◌∷◌, ◌++◌, length, refl, ap, sym, ◌∙◌, subst, append_assoc, length-append, arith}
+use Rattle.std.proofs.Common.{◌≡◌, ℕ, ◌≤◌, List, [], ◌∷◌, ◌++◌, length, refl, ap, sym, ◌∙◌, subst, append_assoc, length-append, arith}
 use Rattle.c_tree.specs.declared.expressions.Expr.{Expr}
 use Rattle.c_tree.specs.declared.keywords.Keyword.TheVariants as keyword
 use Rattle.c_tree.specs.declared.signs.Sign.{Sign}
@@ -17,7 +17,7 @@ use Rattle.c_tree.specs.declared.words.Token.{Token}
 use Rattle.c_tree.specs.declared.words.Word.{Word}
 use Rattle.c_tree.specs.declared.words.Word.TheVariants as word
 use Rattle.c_tree.specs.Operators.{UnaryAt, BinaryAt}
-use Rattle.c_tree.specs.Reading.{front_of, Begins, Each, each_end, each_more, Enclosed, enclosed}
+use Rattle.c_tree.specs.Reading.{Begins, Each, each_end, each_more, Enclosed, enclosed}
 use Rattle.c_tree.specs.Reading.Front.{front}
 use Rattle.c_tree.specs.TypeGrammar as types
 use Rattle.c_tree.specs.TypeGrammar.{BaseAt, char, signed_char, unsigned_char, short, unsigned_short, int, long, unsigned, unsigned_int, unsigned_long, structure, TermAt, number, name, product, SignedAt, plus, minus, FirstTermAt, first, negative_first, SumAt, sum, AddrAt, pointer, offset, EndsAt, ends, AnnotationAt, safe, sentinel, nullterm, count, bound, StarAt, annotated, TypeNameAt, type_name, InParens}

@@ -1,10 +1,10 @@
 -- An expression's words are those that its tree determines, and none of them ends a run.
-use Rattle.std.proofs.Common.{◌≡◌, ℕ, List, [], ◌∷◌, ◌++◌, map, Bool, true, false, Some, refl, ap, sym, ◌∙◌, subst, append_assoc, append-nil}
+use Rattle.std.proofs.Common.{◌≡◌, ℕ, List, [], ◌∷◌, ◌++◌, false, Some, refl, ap, sym, ◌∙◌, subst, append_assoc, append-nil}
 use Rattle.c_tree.specs.declared.expressions.Binary.{Binary}
 use Rattle.c_tree.specs.declared.expressions.Binary.TheVariants as binary
 use Rattle.c_tree.specs.declared.expressions.Expr.{Expr}
 use Rattle.c_tree.specs.declared.expressions.Expr.TheOpen.{Expr-F}
-use Rattle.c_tree.specs.declared.expressions.Expr.TheFolds.{fold-Expr, fold-roll-Expr}
+use Rattle.c_tree.specs.declared.expressions.Expr.TheFolds.{fold-roll-Expr}
 use Rattle.c_tree.specs.declared.expressions.Expr.TheVariants as expr
 use Rattle.c_tree.specs.declared.expressions.Unary.{Unary}
 use Rattle.c_tree.specs.declared.expressions.Unary.TheVariants as unary
@@ -24,10 +24,10 @@ use Rattle.c_tree.specs.declared.words.Suffix.TheVariants as suffix
 use Rattle.c_tree.specs.declared.words.Token.{Token}
 use Rattle.c_tree.specs.declared.words.Word.{Word}
 use Rattle.c_tree.specs.declared.words.Word.TheVariants as word
-use Rattle.c_tree.specs.ExpressionGrammar.{single_of, SingleAt, NullAt, null, Row, row, last_row, RowMore, row_end, row_more, UnaryExpr, prefixed, cast, size_of, plain, Postfix, postfix, PostfixMore, postfix_end, field, arrow, index, Primary, single, grouped, null_constant, Closed, closed, IsExpr}
+use Rattle.c_tree.specs.ExpressionGrammar.{single_of, NullAt, null, Row, row, last_row, RowMore, row_end, row_more, UnaryExpr, prefixed, cast, size_of, plain, Postfix, postfix, PostfixMore, postfix_end, field, arrow, index, Primary, single, grouped, null_constant, Closed, closed, IsExpr}
 use Rattle.c_tree.specs.Limits.{is_sign, ends_run}
 use Rattle.c_tree.specs.Operators.{unary_of, binary_of, UnaryAt, BinaryAt}
-use Rattle.c_tree.specs.Reading.{front_of, Begins, Each, each_end, each_more, Enclosed, enclosed}
+use Rattle.c_tree.specs.Reading.{Begins, Each, each_end, each_more, Enclosed, enclosed}
 use Rattle.c_tree.specs.Spelling.{a_sign, a_keyword, a_name, a_number, unary_sign, binary_sign, base_words, term_words, signed_words, first_words, terms_words, sum_words, addr_words, in_parentheses, annotation_words, stars_words, type_words, expression_words, spelled}
 use Rattle.c_tree.specs.TypeGrammar as types
 use Rattle.c_expr.specs.Tokens.{words_of}

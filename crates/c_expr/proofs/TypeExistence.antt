@@ -1,5 +1,5 @@
 -- Each list of words has its longest type name, or none: what the readers answer where memory is not wanting.
-use Rattle.std.proofs.Common.{◌≡◌, ℕ, ◌<◌, ◌≤◌, List, [], ◌∷◌, length, Option, None, Some, Bool, IsTrue, refl, subst, inl, inr, le_refl, zero, suc, arith}
+use Rattle.std.proofs.Common.{◌≡◌, ℕ, ◌<◌, ◌≤◌, List, [], ◌∷◌, length, Option, None, Some, IsTrue, refl, subst, inl, inr, le_refl, zero, suc, arith}
 use Rattle.c_tree.specs.declared.keywords.Keyword.TheVariants as keyword
 use Rattle.c_tree.specs.declared.signs.Sign.TheVariants as sign
 use Rattle.c_tree.specs.declared.types.Addr.{Addr}
@@ -8,15 +8,13 @@ use Rattle.c_tree.specs.declared.types.Annotation.TheVariants as annotation
 use Rattle.c_tree.specs.declared.types.Base.{Base}
 use Rattle.c_tree.specs.declared.types.SignedTerm.{SignedTerm}
 use Rattle.c_tree.specs.declared.types.Star.{Star}
-use Rattle.c_tree.specs.declared.types.Sum.{Sum}
-use Rattle.c_tree.specs.declared.types.TypeName.{TypeName}
 use Rattle.c_tree.specs.declared.words.Token.{Token}
 use Rattle.c_tree.specs.declared.words.Word.TheVariants as word
 use Rattle.c_tree.specs.Reading.{Front, front_of, Begins, Best, Never, Each, Enclosed}
-use Rattle.c_tree.specs.Reading.Front.{nothing, front}
+use Rattle.c_tree.specs.Reading.Front.{front}
 use Rattle.c_tree.specs.TypeGrammar as types
 use Rattle.c_tree.specs.TypeGrammar.{SignedAt, SumAt, AddrAt, EndsAt, AnnotationAt, safe, sentinel, nullterm, count, bound, StarAt, annotated, TypeNameAt, InParens}
-use Rattle.c_expr.specs.Classes.{begins_in, At, is_star, is_in_sums, is_annotation, is_after_unsigned, is_in_types}
+use Rattle.c_expr.specs.Classes.{begins_in, At, is_in_sums, is_annotation, is_in_types}
 use Rattle.c_expr.specs.TypeReading.{base_of, signed_of, first_of, addr_of}
 use Rattle.c_expr.proofs.Begins.{begins_shrinks}
 use Rattle.c_expr.proofs.Chains.{best_none, enclosed_unopened, enclosed_empty, enclosed_unclosed, enclosed_closed}

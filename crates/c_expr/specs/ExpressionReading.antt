@@ -1,12 +1,12 @@
 -- What the words begin with, for the phrases of expressions that a few words of lookahead decide.
-use Rattle.std.specs.Prelude.{ℕ, zero, Bool, true, false, List, Option, None, Some}
+use Rattle.std.specs.Prelude.{zero, Bool, false, List, Option, None, Some}
 use Rattle.c_tree.specs.declared.keywords.Keyword.TheVariants as keyword
 use Rattle.c_tree.specs.declared.signs.Sign.TheVariants as sign
 use Rattle.c_tree.specs.declared.words.Suffix.TheVariants as suffix
 use Rattle.c_tree.specs.declared.words.Token.{Token}
 use Rattle.c_tree.specs.declared.words.Word.TheVariants as word
 use Rattle.c_tree.specs.Reading.{Front, front_of}
-use Rattle.c_tree.specs.Reading.Front.{nothing, front}
+use Rattle.c_tree.specs.Reading.Front.{front}
 use Rattle.c_expr.specs.Classes.{begins_in, is_base}
 
 -- Whether a beginning is `(` with a base after it.

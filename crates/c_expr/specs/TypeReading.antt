@@ -13,7 +13,7 @@ use Rattle.c_tree.specs.declared.types.Term.TheVariants as term
 use Rattle.c_tree.specs.declared.words.Token.{Token}
 use Rattle.c_tree.specs.declared.words.Word.TheVariants as word
 use Rattle.c_tree.specs.Reading.{Front, front_of}
-use Rattle.c_tree.specs.Reading.Front.{nothing, front}
+use Rattle.c_tree.specs.Reading.Front.{front}
 
 -- After `unsigned`, which the words v follow.
 abbrev pub unsigned_after : List Token → Front → Base × List Token

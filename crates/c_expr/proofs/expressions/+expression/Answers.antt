@@ -1,4 +1,4 @@
-use Rattle.std.proofs.Common.{◌≡◌, Some, false, le_refl, arith}
+use Rattle.std.proofs.Common.{◌≡◌, false, le_refl, arith}
 use Rattle.c_expr.specs.ExpressionReading.{opens_type}
 use Rattle.c_expr.proofs.LongestPostfix.{postfix_stays, postfix_stuck, member_on, index_on, postfix_on}
 use Rattle.c_expr.proofs.LongestPrimary.{null_there, null_missing, primary_single, primary_null, primary_none, primary_open, primary_grouped, closed_open, closed_shut}

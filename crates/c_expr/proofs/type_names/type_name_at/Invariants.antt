@@ -1,4 +1,4 @@
-use Rattle.std.proofs.Common.{◌≡◌, ◌<◌, ◌≤◌, ◌++◌, List, Some, length}
+use Rattle.std.proofs.Common.{◌<◌, ◌≤◌, ◌++◌, List, Some, length}
 use Rattle.c_tree.specs.declared.types.Star.{Star}
 use Rattle.c_tree.specs.declared.types.TypeName.{TypeName}
 use Rattle.c_tree.specs.declared.words.Token.{Token}

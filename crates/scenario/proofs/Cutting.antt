@@ -1,9 +1,9 @@
 -- A text begins with its first line, and a line with its first word.
 -- Here: first_line_at, only_line, no_word, first_word_at, first_word_behind
 use Rattle.std.proofs.Common.{◌≡◌, ℕ, suc, ◌+◌, ◌-◌, ◌<◌, ◌≤◌, Bool, true, false, cond, not, List, [], ◌∷◌, length, take, drop, filter, Option, None, Some, refl, sym, ap, ◌∙◌, subst, arith, ltb, position, length-drop, length-take}
-use Rattle.std.specs.List.{slice_split, onto_first, prefix_len, position_or_len}
-use Rattle.std.proofs.Math.Numerals.{one-add, add-one}
-use Rattle.std.proofs.lemmas.Bool.{ltb-true, ltb-false, lt-ltb}
+use Rattle.std.specs.List.{slice_split, onto_first, position_or_len}
+use Rattle.std.proofs.Math.Numerals.{one-add}
+use Rattle.std.proofs.lemmas.Bool.{ltb-true, ltb-false}
 use Rattle.std.proofs.lemmas.List.{take_rest, drop_all}
 use Rattle.std.proofs.lemmas.List.Splits.{slice_split_first, length-slice_split}
 use Rattle.std.proofs.lemmas.List.Sums.{prefix_len-le-length}
@@ -61,7 +61,6 @@ only_line text some e = ap but_empty_last (whole text (not_found ends_line text 
 -- the place of the first byte that is no blank
 abbrev start_of : List ℕ → ℕ
 start_of line = position_or_len (λ b. not (is_blank b)) line
-
 
 skip_step : (b : Bool) (x : ℕ) (xs : List ℕ) (n : ℕ) → is_blank x ≡ b → pieces_of (drop n xs) ≡ pieces_of xs → pieces_of (drop (cond (not (not b)) (1 + n) 0) (x ∷ xs)) ≡ pieces_of (x ∷ xs)
 skip_step true x xs n e h =
@@ -141,7 +140,7 @@ pub first_word_at : (line : List ℕ) (start : ℕ) → Some start ≡ position 
 first_word_at line start e =
     let at = found_at (λ b. not (is_blank b)) line start e in
     subst (λ k. let found = drop k line in let end = position_or_len is_blank found in pieces_of line ≡ take end found ∷ pieces_of (drop end found)) at.1
-      (sym (skip line) ∙ word_of_begun (drop (start_of line) line) (begins line at.0))
+    (sym (skip line) ∙ word_of_begun (drop (start_of line) line) (begins line at.0))
 
 -- What is behind the first word is shorter than the line.
 pub first_word_behind : (line : List ℕ) (start : ℕ) → Some start ≡ position (λ b. not (is_blank b)) line

@@ -1,10 +1,10 @@
 -- A number read digit by digit.
 -- Here: number_behind; behind_digit, behind_other, behind_too_much; number_within_is
-use Rattle.std.proofs.Common.{◌≡◌, ℕ, ◌+◌, ◌-◌, ◌*◌, ◌<◌, ◌≤◌, Bool, true, false, cond, ◌&&◌, List, [], ◌∷◌, length, Option, None, Some, refl, sym, ap, ◌∙◌, arith, leb}
-use Rattle.std.specs.List.{fold, list_all}
+use Rattle.std.proofs.Common.{◌≡◌, ℕ, ◌+◌, ◌-◌, ◌*◌, ◌<◌, ◌≤◌, Bool, true, false, cond, ◌&&◌, List, [], ◌∷◌, Option, None, Some, refl, ap, ◌∙◌, arith, leb}
+use Rattle.std.specs.List.{list_all}
 use Rattle.std.specs.Char.{is_ascii_digit}
 use Rattle.std.proofs.lemmas.Bool.Decides.{nat_tests}
-use Rattle.scenario.specs.Numbers.{is_number, value_behind, value_of, number_within}
+use Rattle.scenario.specs.Numbers.{value_behind, value_of, number_within}
 
 -- the number to `most` that digits make behind the number n
 abbrev pub number_behind : ℕ → ℕ → List ℕ → Option ℕ

@@ -1,6 +1,6 @@
 -- What a line says lies in the ranges of its form.
 -- Here: said_fits
-use Rattle.std.proofs.Common.{◌≡◌, ℕ, ◌+◌, ◌≤◌, Bool, true, false, cond, ◌&&◌, List, [], ◌∷◌, ◌++◌, length, nat_le, leb, eqb, not, Option, None, Some, Result, Ok, Err, ℤ, refl, sym, ap, ◌∙◌, subst, map, zero-add, arith, length-append}
+use Rattle.std.proofs.Common.{◌≡◌, ℕ, ◌+◌, ◌≤◌, Bool, true, false, cond, ◌&&◌, List, [], ◌∷◌, ◌++◌, length, leb, eqb, not, Option, None, Some, Result, Ok, Err, ℤ, refl, ap, subst, map, zero-add, arith, length-append}
 use Rattle.std.specs.Option.{option_map}
 use Rattle.std.proofs.lemmas.Bool.{leb-true}
 use Rattle.std.proofs.lemmas.Option.{same_Some, cond_some}
@@ -8,7 +8,6 @@ use Rattle.scenario.specs.declared.keywords.Keyword.{Keyword}
 use Rattle.scenario.specs.declared.keywords.Keyword.TheVariants as keyword
 use Rattle.scenario.specs.declared.event.Event.{Event}
 use Rattle.scenario.specs.declared.event.Event.TheVariants as e
-use Rattle.scenario.specs.declared.event.KernelEvent.{KernelEvent}
 use Rattle.scenario.specs.declared.refusal.ScenarioRefusal.{ScenarioRefusal}
 use Rattle.scenario.specs.Words.{lines_of, words_of}
 use Rattle.scenario.specs.Numbers.{is_number, value_of, number_within, is_name, driver_of, task_of}
@@ -145,8 +144,8 @@ all_fit drivers [] first = tt
 all_fit drivers (line ∷ lines) first = fits_step drivers first (line_said drivers (words_of line)) (saids_from drivers lines) (said_fits drivers (words_of line)) (all_fit drivers lines)
 
 skips : (first end : ℕ) (said : Event) (events : List Event) → IsNoAnswer said → AnswersFollow first events end → AnswersFollow first (said ∷ events) end
-skips first end (e.Answer port from n) events no h = absurd no
-skips first end said events no h = h
+skips first end (e.Answer port from n) events apart h = absurd apart
+skips first end said events apart h = h
 
 follow_step : (drivers first : ℕ) (said : Option Said) (saids : List (Option Said)) → ((s : Said) → said ≡ Some s → FitsSaid drivers s)
     → ((k : ℕ) → AnswersFollow k (events_said k saids) (k + length (answers_given saids))) → AnswersFollow first (events_said first (said ∷ saids)) (first + length (answers_given (said ∷ saids)))

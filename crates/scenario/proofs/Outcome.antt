@@ -1,7 +1,7 @@
 -- A scenario read line by line is the scenario that its text reads as.
 -- Here: behind, refused_or, outcome; outcome_is; behind-nil, behind-behind, behind-end
 use Rattle.std.proofs.Common.{◌≡◌, ℕ, zero, suc, ◌+◌, List, [], ◌∷◌, ◌++◌, length, take, map, slice_index_or, Option, None, Some, Result, Ok, Err, ℤ, refl, sym, ap, ◌∙◌, append_assoc, zero-add, add-zero, add-one, arith, length-append}
-use Rattle.std.specs.List.{flat_map, range_with_len}
+use Rattle.std.specs.List.{range_with_len}
 use Rattle.std.proofs.lemmas.List.{append-nil}
 use Rattle.scenario.specs.declared.event.Event.{Event}
 use Rattle.scenario.specs.declared.refusal.ScenarioRefusal.{ScenarioRefusal}
@@ -25,7 +25,7 @@ abbrev pub outcome : ℕ → ℕ → List (Option Said) → Outcome
 outcome n total [] = Ok ([], [])
 outcome n total (said ∷ saids) =
     refused_or (line_refusal said (n + 1) (total + length (given_by said)))
-      (behind (events_said total (said ∷ [])) (given_by said) (outcome (n + 1) (total + length (given_by said)) saids))
+    (behind (events_said total (said ∷ [])) (given_by said) (outcome (n + 1) (total + length (given_by said)) saids))
 
 pub behind-nil : (o : Outcome) → behind [] [] o ≡ o
 behind-nil (Ok scenario) = refl
@@ -86,7 +86,7 @@ unfolding first_after
 first_after_cons n total said saids =
     let same : ◌≡◌ {A = ℕ → Option ScenarioRefusal} (λ i. refusal_after n total (said ∷ saids) (i + 1)) (refusal_after (n + 1) (total + length (given_by said)) saids) = λ j i. refusal_of_later n total said saids i j in
     let later : map (refusal_after n total (said ∷ saids)) (range_with_len 1 (length saids)) ≡ map (refusal_after (n + 1) (total + length (given_by said)) saids) (range_with_len 0 (length saids)) =
-        shifted (refusal_after n total (said ∷ saids)) 0 (length saids) ∙ ap (λ (f : ℕ → Option ScenarioRefusal). map f (range_with_len 0 (length saids))) same in
+    shifted (refusal_after n total (said ∷ saids)) 0 (length saids) ∙ ap (λ (f : ℕ → Option ScenarioRefusal). map f (range_with_len 0 (length saids))) same in
     first_of_two (refusal_after n total (said ∷ saids) 0) (map (refusal_after n total (said ∷ saids)) (range_with_len 1 (length saids)))
     ∙ ap (λ os. or_later (refusal_after n total (said ∷ saids) 0) (first_some os)) later
     ∙ ap (λ o. or_later o (first_some (map (refusal_after (n + 1) (total + length (given_by said)) saids) (range_with_len 0 (length saids))))) (refusal_of_front n total said saids)

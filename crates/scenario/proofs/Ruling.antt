@@ -1,10 +1,10 @@
 -- What the words of a line say by the rules of the lines is what `line_said` computes.
 -- Here: said_by_rules, rules_of_said
-use Rattle.std.proofs.Common.{◌≡◌, ℕ, zero, suc, ◌≤◌, Bool, true, false, cond, ◌&&◌, not, List, [], ◌∷◌, length, leb, eqb, Option, None, Some, is_some, unwrap_or, slice_get, slice_index_or, ℤ, pos, neg_ℤ, refl, sym, ap, ◌∙◌, subst, arith, codes}
+use Rattle.std.proofs.Common.{◌≡◌, ℕ, zero, suc, ◌≤◌, Bool, true, false, cond, ◌&&◌, not, List, [], ◌∷◌, length, leb, eqb, Option, None, Some, is_some, unwrap_or, slice_index_or, ℤ, pos, neg_ℤ, refl, sym, ap, ◌∙◌, subst, arith, codes}
 use Rattle.std.specs.Map.{lookup}
 use Rattle.std.specs.Str.{bytes_eq}
 use Rattle.std.specs.List.{list_all, cons_option}
-use Rattle.std.specs.Option.{option_map, option_and_then}
+use Rattle.std.specs.Option.{option_map}
 use Rattle.std.specs.Char.{is_ascii_digit}
 use Rattle.std.proofs.lemmas.Bool.{false≢true, leb-true, le-leb, eqb-true}
 use Rattle.std.proofs.lemmas.Bool.Decides.{nat_tests}
@@ -20,7 +20,7 @@ use Rattle.scenario.specs.declared.event.KernelEvent.{KernelEvent}
 use Rattle.scenario.specs.declared.event.KernelEvent.TheVariants as k
 use Rattle.scenario.specs.Numbers.{is_number, value_of, number_within, number_to, signed_of, is_name, driver_of, task_of}
 use Rattle.scenario.specs.Keywords.{keyword_of, keywords, kernel_word_of, kernel_words}
-use Rattle.scenario.specs.Forms.{Said, nothing, event, answers, ◌>>=◌, only_of, two_of, none_of, are_values, values_in, argument_at, arguments_in, driver_and_task, only_number, only_value, call_said, kernel_arguments, kernel_said, answers_said, keyword_said, line_said}
+use Rattle.scenario.specs.Forms.{Said, event, answers, ◌>>=◌, only_of, two_of, none_of, are_values, values_in, argument_at, arguments_in, driver_and_task, only_number, only_value, call_said, kernel_arguments, kernel_said, answers_said, keyword_said, line_said}
 use Rattle.scenario.specs.Rules.{IsNumber, IsValue, plain, minus, AreValues, no_value, one_value, NamesDriver, driver, NamesTask, eight, KernelDoes, Says}
 use Rattle.scenario.specs.Rules as rule
 
@@ -205,33 +205,33 @@ kernel_is (rule.lock h) = ap (option_map k.Lock) (value_is h)
 kernel_is (rule.unlock h) = ap (option_map k.Unlock) (value_is h)
 
 -- a form of the kernel with one value
-one_has : (form : ℤ → KernelEvent) (words : List (List ℕ)) (event : KernelEvent) → option_map form (only_value words) ≡ Some event
-    → (v : List ℕ) × (i : ℤ) × (words ≡ v ∷ []) × IsValue v i × (form i ≡ event)
-one_has form words event h =
-    let value = mapped form (only_value words) event h in
+one_has : (form : ℤ → KernelEvent) (words : List (List ℕ)) (happens : KernelEvent) → option_map form (only_value words) ≡ Some happens
+    → (v : List ℕ) × (i : ℤ) × (words ≡ v ∷ []) × IsValue v i × (form i ≡ happens)
+one_has form words happens h =
+    let value = mapped form (only_value words) happens h in
     let word = bound (only_of words) signed_of value.0 value.1 in
     (word.x, value.0, only_has words word.x word.was, value_has word.x value.0 word.then, value.2)
 
-kernel_arguments_have : (kw : KernelWord) (words : List (List ℕ)) (event : KernelEvent) → kernel_arguments kw words ≡ Some event → KernelDoes (kernel_spelling kw ∷ words) event
-kernel_arguments_have word.Line words event h = let o = one_has k.Line words event h in subst (λ ws. KernelDoes (codes "line" ∷ ws) event) (sym o.2) (subst (KernelDoes (codes "line" ∷ o.0 ∷ [])) o.4 (rule.line o.3))
-kernel_arguments_have word.FreeLine words event h = let o = one_has k.FreeLine words event h in subst (λ ws. KernelDoes (codes "free_line" ∷ ws) event) (sym o.2) (subst (KernelDoes (codes "free_line" ∷ o.0 ∷ [])) o.4 (rule.free_line o.3))
-kernel_arguments_have word.Param words event h =
-    let two = bound (two_of words) _ event h in
-    let key = bound (signed_of two.x.0) _ event two.then in
-    let value = bound (signed_of two.x.1) _ event key.then in
-    subst (λ ws. KernelDoes (codes "param" ∷ ws) event) (sym (two_has words two.x two.was))
-      (subst (KernelDoes (codes "param" ∷ two.x.0 ∷ two.x.1 ∷ [])) (same_Some _ _ value.then) (rule.param (value_has two.x.0 key.x key.was) (value_has two.x.1 value.x value.was)))
-kernel_arguments_have word.ClearParam words event h = let o = one_has k.ClearParam words event h in subst (λ ws. KernelDoes (codes "clear_param" ∷ ws) event) (sym o.2) (subst (KernelDoes (codes "clear_param" ∷ o.0 ∷ [])) o.4 (rule.clear_param o.3))
-kernel_arguments_have word.Hold words event h = let o = one_has k.Hold words event h in subst (λ ws. KernelDoes (codes "hold" ∷ ws) event) (sym o.2) (subst (KernelDoes (codes "hold" ∷ o.0 ∷ [])) o.4 (rule.hold o.3))
-kernel_arguments_have word.DropHold words event h = let o = one_has k.DropHold words event h in subst (λ ws. KernelDoes (codes "drop_hold" ∷ ws) event) (sym o.2) (subst (KernelDoes (codes "drop_hold" ∷ o.0 ∷ [])) o.4 (rule.drop_hold o.3))
-kernel_arguments_have word.Lock words event h = let o = one_has k.Lock words event h in subst (λ ws. KernelDoes (codes "lock" ∷ ws) event) (sym o.2) (subst (KernelDoes (codes "lock" ∷ o.0 ∷ [])) o.4 (rule.lock o.3))
-kernel_arguments_have word.Unlock words event h = let o = one_has k.Unlock words event h in subst (λ ws. KernelDoes (codes "unlock" ∷ ws) event) (sym o.2) (subst (KernelDoes (codes "unlock" ∷ o.0 ∷ [])) o.4 (rule.unlock o.3))
+kernel_arguments_have : (kw : KernelWord) (words : List (List ℕ)) (happens : KernelEvent) → kernel_arguments kw words ≡ Some happens → KernelDoes (kernel_spelling kw ∷ words) happens
+kernel_arguments_have word.Line words happens h = let o = one_has k.Line words happens h in subst (λ ws. KernelDoes (codes "line" ∷ ws) happens) (sym o.2) (subst (KernelDoes (codes "line" ∷ o.0 ∷ [])) o.4 (rule.line o.3))
+kernel_arguments_have word.FreeLine words happens h = let o = one_has k.FreeLine words happens h in subst (λ ws. KernelDoes (codes "free_line" ∷ ws) happens) (sym o.2) (subst (KernelDoes (codes "free_line" ∷ o.0 ∷ [])) o.4 (rule.free_line o.3))
+kernel_arguments_have word.Param words happens h =
+    let two = bound (two_of words) _ happens h in
+    let key = bound (signed_of two.x.0) _ happens two.then in
+    let value = bound (signed_of two.x.1) _ happens key.then in
+    subst (λ ws. KernelDoes (codes "param" ∷ ws) happens) (sym (two_has words two.x two.was))
+    (subst (KernelDoes (codes "param" ∷ two.x.0 ∷ two.x.1 ∷ [])) (same_Some _ _ value.then) (rule.param (value_has two.x.0 key.x key.was) (value_has two.x.1 value.x value.was)))
+kernel_arguments_have word.ClearParam words happens h = let o = one_has k.ClearParam words happens h in subst (λ ws. KernelDoes (codes "clear_param" ∷ ws) happens) (sym o.2) (subst (KernelDoes (codes "clear_param" ∷ o.0 ∷ [])) o.4 (rule.clear_param o.3))
+kernel_arguments_have word.Hold words happens h = let o = one_has k.Hold words happens h in subst (λ ws. KernelDoes (codes "hold" ∷ ws) happens) (sym o.2) (subst (KernelDoes (codes "hold" ∷ o.0 ∷ [])) o.4 (rule.hold o.3))
+kernel_arguments_have word.DropHold words happens h = let o = one_has k.DropHold words happens h in subst (λ ws. KernelDoes (codes "drop_hold" ∷ ws) happens) (sym o.2) (subst (KernelDoes (codes "drop_hold" ∷ o.0 ∷ [])) o.4 (rule.drop_hold o.3))
+kernel_arguments_have word.Lock words happens h = let o = one_has k.Lock words happens h in subst (λ ws. KernelDoes (codes "lock" ∷ ws) happens) (sym o.2) (subst (KernelDoes (codes "lock" ∷ o.0 ∷ [])) o.4 (rule.lock o.3))
+kernel_arguments_have word.Unlock words happens h = let o = one_has k.Unlock words happens h in subst (λ ws. KernelDoes (codes "unlock" ∷ ws) happens) (sym o.2) (subst (KernelDoes (codes "unlock" ∷ o.0 ∷ [])) o.4 (rule.unlock o.3))
 
-kernel_has : (words : List (List ℕ)) (event : KernelEvent) → kernel_said words ≡ Some event → KernelDoes words event
-kernel_has [] event h = absurd (cc)
-kernel_has (w ∷ words) event h =
-    let kw = bound (kernel_word_of w) _ event h in
-    subst (λ s. KernelDoes (s ∷ words) event) (sym (kernel_spelled w kw.x kw.was)) (kernel_arguments_have kw.x words event kw.then)
+kernel_has : (words : List (List ℕ)) (happens : KernelEvent) → kernel_said words ≡ Some happens → KernelDoes words happens
+kernel_has [] happens h = absurd (cc)
+kernel_has (w ∷ words) happens h =
+    let kw = bound (kernel_word_of w) _ happens h in
+    subst (λ s. KernelDoes (s ∷ words) happens) (sym (kernel_spelled w kw.x kw.was)) (kernel_arguments_have kw.x words happens kw.then)
 
 -- what the rules say is computed
 named_is : {drivers : ℕ} {d t : List ℕ} {i n : ℕ} → NamesDriver drivers d i → NamesTask t n → driver_and_task drivers (d ∷ t ∷ []) ≡ Some (i, n)
@@ -260,10 +260,10 @@ said_by_rules {drivers} (rule.call {d = d} {t = t} {name = name} {words = ws} {i
     let all = values_are values in
     let call : ℕ → ℕ → List ℤ → Event = λ x y args. e.Call x y name args (length ws) in
     ap (option_map event)
-      (after (driver_of drivers d) (λ x. task_of t >>= λ y. cond (is_name name && (are_values ws && leb (length ws) 8)) (Some (call x y (arguments_in ws))) None) i (driver_is h)
-        ∙ after (task_of t) (λ y. cond (is_name name && (are_values ws && leb (length ws) 8)) (Some (call i y (arguments_in ws))) None) n (number_is g)
-        ∙ if_so (is_name name) (are_values ws) (leb (length ws) 8) (call i n (arguments_in ws)) named all.0 (le-leb _ _ few)
-        ∙ ap (λ args. Some (call i n args)) (eight_are values))
+    (after (driver_of drivers d) (λ x. task_of t >>= λ y. cond (is_name name && (are_values ws && leb (length ws) 8)) (Some (call x y (arguments_in ws))) None) i (driver_is h)
+    ∙ after (task_of t) (λ y. cond (is_name name && (are_values ws && leb (length ws) 8)) (Some (call i y (arguments_in ws))) None) n (number_is g)
+    ∙ if_so (is_name name) (are_values ws) (leb (length ws) 8) (call i n (arguments_in ws)) named all.0 (le-leb _ _ few)
+    ∙ ap (λ args. Some (call i n args)) (eight_are values))
 said_by_rules (rule.run {t = t} {s = s} {n = n} {steps = steps} h g) =
     after (task_of t) (λ task. number_within 0 10000000 s >>= λ m. Some (event (e.Run task m))) n (number_is h) ∙ after (number_within 0 10000000 s) (λ m. Some (event (e.Run n m))) steps (number_is g)
 said_by_rules (rule.finish {n = n} h) = then_said _ e.Finish n (number_is h)
@@ -308,7 +308,7 @@ call_has drivers (d ∷ t ∷ name ∷ ws) said h =
     let more = both (are_values ws) _ tests.1 in
     let values = values_have ws more.0 in
     let rule : Says drivers (codes "call" ∷ d ∷ t ∷ name ∷ ws) (event (e.Call driver.x task.x name (eight (values_in ws)) (length ws))) =
-        rule.call (driver_has drivers d driver.x driver.was) (number_has 1 8 t task.x task.was) tests.0 values (leb-true _ _ more.1) in
+    rule.call (driver_has drivers d driver.x driver.was) (number_has 1 8 t task.x task.was) tests.0 values (leb-true _ _ more.1) in
     let call : List ℤ → Event = λ args. e.Call driver.x task.x name args (length ws) in
     subst (λ s. Says drivers (codes "call" ∷ d ∷ t ∷ name ∷ ws) (event s)) (ap call (sym (eight_are values)) ∙ found.1) rule
 

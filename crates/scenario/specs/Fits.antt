@@ -1,7 +1,7 @@
 -- What holds of the events of a scenario that was read: their numbers lie in the ranges of the lines,
 -- and the ranges of answers follow one another.
 -- Here: IsFit, AllFit, AnswersFollow
-use Rattle.std.specs.Prelude.{◌≡◌, ℕ, ◌+◌, ◌≤◌, List, [], ◌∷◌, length}
+use Rattle.std.specs.Prelude.{◌≡◌, ℕ, ◌+◌, ◌≤◌, List, [], ◌∷◌}
 use Rattle.scenario.specs.declared.event.Event.{Event}
 use Rattle.scenario.specs.declared.event.Event.TheVariants.{Load, Restart, Unload, Call, Run, Finish, Irq, Tick, Work, Answer, Kernel, Show}
 

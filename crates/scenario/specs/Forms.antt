@@ -78,7 +78,7 @@ call_said drivers (driver ∷ []) = None
 call_said drivers (driver ∷ task ∷ []) = None
 call_said drivers (driver ∷ task ∷ name ∷ words) =
     driver_of drivers driver >>= λ d. task_of task >>= λ t.
-      if is_name name && (are_values words && nat_le (length words) 8) then Some (e.Call d t name (arguments_in words) (length words)) else None
+    if is_name name && (are_values words && nat_le (length words) 8) then Some (e.Call d t name (arguments_in words) (length words)) else None
 
 -- kernel, one of its words and V, or two V
 abbrev pub kernel_arguments : KernelWord → List (List ℕ) → Option KernelEvent

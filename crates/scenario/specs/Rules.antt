@@ -1,7 +1,6 @@
 -- The rules of a scenario's lines, one for each form: what the words of a line say. `line_said` computes them.
 -- Here: IsNumber, IsValue, AreValues; Says
-use Rattle.std.specs.Prelude.{◌≡◌, ℕ, ◌≤◌, Bool, true, List, [], ◌∷◌, length, slice_index_or, ℤ, pos, neg_ℤ, codes}
-use Rattle.scenario.specs.declared.event.Event.{Event}
+use Rattle.std.specs.Prelude.{◌≡◌, ℕ, ◌≤◌, true, List, [], ◌∷◌, length, slice_index_or, ℤ, pos, neg_ℤ, codes}
 use Rattle.scenario.specs.declared.event.Event.TheVariants as e
 use Rattle.scenario.specs.declared.event.KernelEvent.{KernelEvent}
 use Rattle.scenario.specs.declared.event.KernelEvent.TheVariants as k

@@ -4,7 +4,6 @@ use Rattle.std.specs.Prelude.{ℕ, ◌+◌, nat_lt, List, [], ◌∷◌, length,
 use Rattle.std.specs.List.{flat_map, range_with_len}
 use Rattle.scenario.specs.declared.event.Event.{Event}
 use Rattle.scenario.specs.declared.event.Event.TheVariants as e
-use Rattle.scenario.specs.declared.refusal.ScenarioLimit.{ScenarioLimit}
 use Rattle.scenario.specs.declared.refusal.ScenarioLimit.TheVariants as limit
 use Rattle.scenario.specs.declared.refusal.ScenarioRefusal.{ScenarioRefusal}
 use Rattle.scenario.specs.declared.refusal.ScenarioRefusal.TheVariants as refusal

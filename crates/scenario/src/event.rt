@@ -6,11 +6,19 @@ use sd_base::Name;
 #[derive(Clone, Copy, Debug, PartialEq, Eq)]
 pub enum Event {
     /// `load dK T`: the driver is loaded, and its `init` starts on the task.
-    Load { driver: u8, task: u8 },
+    Load {
+        driver: u8,
+        task: u8,
+    },
     /// `restart dK T`: a failed driver is loaded anew.
-    Restart { driver: u8, task: u8 },
+    Restart {
+        driver: u8,
+        task: u8,
+    },
     /// `unload dK`: the driver leaves, and what it holds is undone.
-    Unload { driver: u8 },
+    Unload {
+        driver: u8,
+    },
     /// `call dK T NAME V*`: a function of the driver starts on the task. The first `n` of `args` are its arguments, and the others are 0.
     Call {
         driver: u8,
@@ -20,17 +28,32 @@ pub enum Event {
         n: u8,
     },
     /// `run T N`: the task takes at most `n` steps.
-    Run { task: u8, n: u32 },
+    Run {
+        task: u8,
+        n: u32,
+    },
     /// `finish T`: the task runs to its end.
-    Finish { task: u8 },
+    Finish {
+        task: u8,
+    },
     /// `irq L`: the interrupt line is raised.
-    Irq { line: u8 },
+    Irq {
+        line: u8,
+    },
     /// `tick N`: the clock goes on by `n`.
-    Tick { n: u32 },
+    Tick {
+        n: u32,
+    },
     /// `work N`: at most `n` queued work items run.
-    Work { n: u32 },
+    Work {
+        n: u32,
+    },
     /// `answer P V+`: the port is given `n` of the scenario's answers, from number `first` on.
-    Answer { port: u16, first: u32, n: u32 },
+    Answer {
+        port: u16,
+        first: u32,
+        n: u32,
+    },
     /// `kernel ..`: the kernel itself changes its tables.
     Kernel(KernelEvent),
     /// `show`: the tables are printed.

@@ -1,15 +1,12 @@
 //! What the words of a line say.
 
-ghost use Rattle.std.specs.Prelude.{◌≡◌, ◌≤◌, length, is_some, if◌then◌else◌, Some, None, slice_get, not, IfSome};
+ghost use Rattle.std.specs.Prelude.{◌≡◌};
 ghost use Rattle.std.specs.Option.{option_map};
 ghost use Rattle.scenario.specs.Words.{pieces_of};
-ghost use Rattle.scenario.specs.Forms.{only_of, two_of, none_of, are_values, argument_at, arguments_in, driver_and_task, only_number, only_value, call_said, kernel_arguments, kernel_said};
+ghost use Rattle.scenario.specs.Forms.{only_of, two_of, none_of, driver_and_task, only_number, only_value};
 
-use crate::event::{Event, KernelEvent};
-use crate::keywords::{KernelWord, read_kernel_word};
-use crate::numbers::{is_name_word, read_driver, read_number, read_signed, read_task};
+use crate::numbers::{read_driver, read_number, read_signed, read_task};
 use crate::words::first_word;
-use sd_base::Name;
 
 /// Exactly one word.
 pub fn only_word(line: &[u8]) -> Option<&[u8]>

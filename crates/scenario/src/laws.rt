@@ -8,5 +8,4 @@ ghost use Rattle.scenario.specs.Rules.{Says};
 pub fn lines_read_by_their_rules()
     ensures read { (drivers : ℕ) (words : List (List ℕ)) (said : Said) → Says drivers words said → line_said drivers words ≡ Some said }
     ensures by_rule { (drivers : ℕ) (words : List (List ℕ)) (said : Said) → line_said drivers words ≡ Some said → Says drivers words said }
-{
-}
+{}

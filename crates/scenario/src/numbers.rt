@@ -52,9 +52,7 @@ pub fn is_name_word(word: &[u8]) -> bool
     match word {
         [] => false,
         [first, rest @ ..] => {
-            begins_name_byte(*first)
-                && are_name_bytes(rest)
-                && word.len() <= NAME_BYTES
+            begins_name_byte(*first) && are_name_bytes(rest) && word.len() <= NAME_BYTES
         }
     }
 }

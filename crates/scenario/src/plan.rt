@@ -75,7 +75,11 @@ fn append(scenario: &mut Scenario, reading: &Reading<'_>) -> Result<(), AllocErr
             scenario.events.push(*event)?;
             Ok(())
         }
-        Reading::Answers { port, values, count } => {
+        Reading::Answers {
+            port,
+            values,
+            count,
+        } => {
             let first = scenario.answers.len() as u32;
             push_values(&mut scenario.answers, values)?;
             scenario.events.push(Event::Answer {

@@ -1,5 +1,5 @@
 -- Digits that already make too much make no number.
-use Rattle.std.proofs.Common.{◌≡◌, ◌+◌, ◌-◌, ◌*◌, ◌<◌, drop, get_or, sym, ap, ◌∙◌, arith}
+use Rattle.std.proofs.Common.{◌+◌, ◌-◌, ◌*◌, ◌<◌, drop, get_or, sym, ap, ◌∙◌, arith}
 use Rattle.std.proofs.lemmas.List.{drop_more}
 use Rattle.scenario.proofs.Digits.{number_behind, behind_digit, behind_too_much, number_within_none}
 use Rattle.scenario.proofs.numbers.read_number.Goals as goal

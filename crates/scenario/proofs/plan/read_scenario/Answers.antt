@@ -1,5 +1,5 @@
 -- Each line goes behind what was read, or ends the reading.
-use Rattle.std.proofs.Common.{◌≡◌, ℕ, ◌+◌, ◌∷◌, [], List, length, Option, Some, None, Result, Ok, Err, ℤ, Bool, false, map, inr, sym, ap, ◌∙◌, arith, length-append, OnOk}
+use Rattle.std.proofs.Common.{◌≡◌, ℕ, ◌∷◌, List, length, Option, Some, Result, Ok, Err, ℤ, false, map, inr, sym, ap, ◌∙◌, arith, length-append, OnOk}
 use Rattle.std.specs.Result.{is_err}
 use Rattle.scenario.specs.declared.event.Event.{Event}
 use Rattle.scenario.specs.declared.refusal.ScenarioRefusal.{ScenarioRefusal}
@@ -28,9 +28,9 @@ returns-in-Err-clause-refusal c =
     let total : c.len.result ≡ length scenario.answers.items = c.len.ensures ∙ scenario.answers.ok.0 in
     let why = rw total at c.in-Err.ensures.refusal in
     inr (
-      sym (outcome_is (saids_of drivers c.args.text.now)) ∙ c.loop-line.invariant.same
-      ∙ refused c.loop-line.number (length scenario.answers.items) scenario.events.items scenario.answers.items (line_said drivers (words_of c.in-Some.line.now)) (saids_of drivers c.in-Some.after.now)
-        (saids_of drivers c.loop-line.rest.now) c.in-Err.refusal (saids_by_lines drivers _ _ c.in-Some.ensures.lines) why
+    sym (outcome_is (saids_of drivers c.args.text.now)) ∙ c.loop-line.invariant.same
+    ∙ refused c.loop-line.number (length scenario.answers.items) scenario.events.items scenario.answers.items (line_said drivers (words_of c.in-Some.line.now)) (saids_of drivers c.in-Some.after.now)
+    (saids_of drivers c.loop-line.rest.now) c.in-Err.refusal (saids_by_lines drivers _ _ c.in-Some.ensures.lines) why
     )
 
 pub loop-line-preserved : goal.loop-line-preserved
@@ -49,7 +49,7 @@ loop-line-preserved c =
       values = omega (arith, ap length answers, length-append scenario.answers.items (given_by said), c.in-Ok.ensures.within.1, total);
       same = c.loop-line.invariant.same
           ∙ turn c.loop-line.number scenario.events.items c.append.new.scenario.events.items scenario.answers.items c.append.new.scenario.answers.items said (saids_of drivers c.in-Some.after.now)
-            (saids_of drivers c.loop-line.rest.now) is fine events answers;
+          (saids_of drivers c.loop-line.rest.now) is fine events answers;
     }
 
 -- behind the last line the whole text is read

@@ -1,5 +1,4 @@
 -- The first blank ends the word, and where there is none the line does.
-use Rattle.std.proofs.Common.{arith}
 use Rattle.scenario.proofs.Cutting.{length_to, length_of_all, place_within}
 use Rattle.scenario.proofs.words.word_length.Goals as goal
 

@@ -1,12 +1,12 @@
 -- Each condition of a check, computed.
-use Rattle.std.specs.Prelude.{◌≡◌, ℕ, List, Bool, false, true, [], ◌∷◌, ℤ, pos, negsuc, Ok, Err, Some, None, refl}
+use Rattle.std.specs.Prelude.{◌≡◌, Bool, false, true, [], ◌∷◌, ℤ, pos, negsuc, Ok, Err, Some, None, refl}
 use Rattle.dep_expr.specs.Linear.{LinearForm}
 use Rattle.checked_tree.specs.declared.stops.Stop.TheVariants.{Wild}
 use Rattle.checked_tree.specs.declared.checks.Cond.{Cond}
 use Rattle.checked_tree.specs.declared.checks.Cond.TheVariants as cond
 use Rattle.checked_tree.specs.Outcome.{Outcome}
 use Rattle.checked_tree.specs.Numbers.{converted}
-use Rattle.checked_tree.specs.Bytes.{little_endian, bytes_at}
+use Rattle.byte_memory.specs.Bytes.{little_endian, bytes_at}
 use Rattle.checked_tree.specs.Memory.{is_inside, read, load, is_clear}
 use Rattle.checked_tree.specs.Conditions.{peek, form_value, condition}
 use Rattle.checked_tree.proofs.Equations.{at_forms}

@@ -1,9 +1,9 @@
 -- Each form of an expression, computed.
-use Rattle.std.specs.Prelude.{◌≡◌, ℕ, List, false, true, [], ◌∷◌, ℤ, pos, negsuc, Ok, Err, refl}
+use Rattle.std.specs.Prelude.{◌≡◌, ℕ, List, false, true, [], ◌∷◌, ℤ, pos, negsuc, Ok, Err}
 use Rattle.sd_base.specs.declared.kinds.CheckKind.TheVariants as kind
 use Rattle.sd_base.specs.declared.kinds.FailKind.TheVariants as fail
 use Rattle.checked_tree.specs.declared.stops.Stop.TheVariants.{Failed, Wild}
-use Rattle.checked_tree.specs.declared.shapes.Scalar.TheVariants.{U8, I8, U16, I16, I32, U32, Pointer}
+use Rattle.checked_tree.specs.declared.shapes.Scalar.TheVariants.{U8, I8, U16, I32, U32, Pointer}
 use Rattle.checked_tree.specs.declared.expressions.CheckedExpr.{CheckedExpr}
 use Rattle.checked_tree.specs.declared.expressions.CheckedExpr.TheVariants as V
 use Rattle.checked_tree.specs.declared.expressions.Unary.TheVariants as unary_op
@@ -12,11 +12,11 @@ use Rattle.checked_tree.specs.declared.expressions.Comparison.TheVariants as com
 use Rattle.checked_tree.specs.declared.expressions.Logic.TheVariants as logic_op
 use Rattle.checked_tree.specs.declared.expressions.PointerSum.TheVariants.{PointerPlus, PlusPointer, PointerMinus}
 use Rattle.checked_tree.specs.Outcome.{Got}
-use Rattle.checked_tree.specs.Numbers.{converted, unary, arithmetic, comparison, is_of}
-use Rattle.checked_tree.specs.Bytes.{little_endian, bytes_at}
+use Rattle.checked_tree.specs.Numbers.{converted, unary, arithmetic, comparison}
+use Rattle.byte_memory.specs.Bytes.{little_endian, bytes_at}
 use Rattle.checked_tree.specs.Memory.{is_inside, read, load}
-use Rattle.checked_tree.specs.Conditions.{State, peek, form_value, condition}
-use Rattle.checked_tree.specs.Eval.{Keep, tests, eval}
+use Rattle.checked_tree.specs.Conditions.{peek, form_value, condition}
+use Rattle.checked_tree.specs.Eval.{tests, eval}
 use Rattle.checked_tree.proofs.Equations.{at_forms}
 use Rattle.checked_tree.proofs.Sample.{state, f, number}
 

@@ -1,27 +1,24 @@
 -- Flow graphs, ranges and bounds of small functions, computed.
-use Rattle.std.specs.Prelude.{◌≡◌, ℕ, List, Bool, false, true, [], ◌∷◌, ◌++◌, map, ℤ, pos, negsuc, Option, Some, None, refl}
+use Rattle.std.specs.Prelude.{◌≡◌, false, true, [], ◌∷◌, map, pos, negsuc, Some, None, refl}
 use Rattle.dep_expr.specs.Linear.{LinearForm}
 use Rattle.dep_expr.specs.Merged.{merged_terms}
 use Rattle.dep_expr.specs.Normed.{gcd}
-use Rattle.dep_expr.specs.declared.inequality.Ineq.{Ineq}
-use Rattle.checked_tree.specs.declared.shapes.Scalar.TheVariants.{Void, U8, I8, U16, I16, I32, U32, Pointer}
-use Rattle.checked_tree.specs.declared.shapes.Shape.TheVariants as shape
+use Rattle.checked_tree.specs.declared.shapes.Scalar.TheVariants.{I32, U32, Pointer}
 use Rattle.checked_tree.specs.declared.checks.Cond.TheVariants as cond
 use Rattle.checked_tree.specs.declared.expressions.CheckedExpr.{CheckedExpr}
 use Rattle.checked_tree.specs.declared.expressions.CheckedExpr.TheVariants as V
 use Rattle.checked_tree.specs.declared.expressions.Comparison.TheVariants as comparison_op
 use Rattle.checked_tree.specs.declared.expressions.Logic.TheVariants as logic_op
 use Rattle.checked_tree.specs.declared.expressions.Unary.TheVariants as unary_op
-use Rattle.checked_tree.specs.declared.statements.CheckedStmt.{CheckedStmt}
 use Rattle.checked_tree.specs.declared.statements.CheckedStmt.TheVariants as T
 use Rattle.checked_tree.specs.Numbers.{converted, is_of}
 use Rattle.checked_tree.specs.Ranges.{are_in_range}
 use Rattle.checked_tree.specs.Edges.{edge_value}
 use Rattle.checked_tree.specs.Bare.{bare}
-use Rattle.checked_tree.specs.Flow.{Event, Tests, Assigns, Finds, Passes, Flow, Leaves, Ends, Meets, Splits, Node, as_value, as_test, seen, node_at, entry, ways}
+use Rattle.checked_tree.specs.Flow.{Tests, Assigns, Finds, Passes, Flow, Leaves, Ends, Meets, Splits, as_value, as_test, seen, node_at, entry, ways}
 use Rattle.checked_tree.specs.Redundant.{flows_of, paths_to, is_constant, is_over_locals, slots_of, comparable, fact_over_atoms, reads_memory, slots_read}
 use Rattle.checked_tree.proofs.Equations.{at_forms, at_expressions, at_parts, at_statements}
-use Rattle.checked_tree.proofs.Sample.{f, function, form, number, return_number}
+use Rattle.checked_tree.proofs.Sample.{f, function, form, number}
 
 -- `*p`, with its two checks
 abbrev load : CheckedExpr

@@ -1,7 +1,6 @@
 pub mod Equations
 pub mod Outcomes
 pub mod FormValues
-pub mod Peeks
 mod Sample
 mod ExpressionExamples
 mod ConditionExamples

@@ -17,7 +17,7 @@ pub agree_same : {A : Type 0} (r : Outcome A) → Agree r r
 agree_same r = record { agrees = λ a h. h }
 
 pub agree_bind : {A B : Type 0} (r t : Outcome A) (g k : A → Outcome B) → Agree r t → ((a : A) → Agree (g a) (k a)) → Agree (r >>= g) (t >>= k)
-agree_bind (Ok a) t g k h m = record { agrees = λ b e. by t (h.agrees a refl) b e }
+agree_bind {A} {B} (Ok a) t g k h m = record { agrees = λ b e. by t (h.agrees a refl) b e }
   where
     by : (t : Outcome A) → t ≡ Ok a → (b : B) → g a ≡ Ok b → (t >>= k) ≡ Ok b
     by t p b e = subst (λ (u : Outcome A). (u >>= k) ≡ Ok b) (sym p) ((m a).agrees b e)

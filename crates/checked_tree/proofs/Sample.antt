@@ -1,11 +1,11 @@
 -- A small driver by hand, on which the examples compute: a function of an integer and a pointer, with a block of 12 bytes.
-use Rattle.std.specs.Prelude.{ℕ, true, false, List, [], ◌∷◌, ◌++◌, replicate, ℤ, pos, negsuc, Some, None}
+use Rattle.std.specs.Prelude.{ℕ, false, List, [], ◌∷◌, ◌++◌, replicate, ℤ, pos, negsuc, Some, None}
 use Rattle.sd_base.specs.Blocks.{Block}
 use Rattle.sd_base.specs.declared.history.BlockState.TheVariants.{Live}
 use Rattle.sd_base.specs.declared.kinds.CheckKind.{CheckKind}
 use Rattle.sd_base.specs.declared.kinds.CheckKind.TheVariants as kind
 use Rattle.dep_expr.specs.Linear.{LinearForm}
-use Rattle.checked_tree.specs.declared.shapes.Scalar.TheVariants.{Void, U8, I8, U16, I16, I32, U32, Pointer}
+use Rattle.checked_tree.specs.declared.shapes.Scalar.TheVariants.{I32}
 use Rattle.checked_tree.specs.declared.shapes.Bounds.TheVariants as bounds
 use Rattle.checked_tree.specs.declared.shapes.Shape.TheVariants as shape
 use Rattle.checked_tree.specs.declared.checks.Check.{Check}
@@ -54,9 +54,14 @@ atoms = V.Local 0 ∷ V.Local 1 ∷ V.Local 2 ∷ V.Local 3 ∷ []
 
 abbrev pub function : List CheckedStmt → CheckedFn
 function body = record {
-    name = []; params = 1;
-    slots = shape.Int I32 ∷ shape.Pointer 1 bounds.Hidden ∷ shape.Address ∷ shape.Address ∷ [];
-    result = I32; atoms = atoms; checks = checks; body = body }
+  name = [];
+  params = 1;
+  slots = shape.Int I32 ∷ shape.Pointer 1 bounds.Hidden ∷ shape.Address ∷ shape.Address ∷ [];
+  result = I32;
+  atoms = atoms;
+  checks = checks;
+  body = body;
+}
 
 abbrev pub f : CheckedFn
 f = function []

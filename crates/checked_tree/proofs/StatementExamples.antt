@@ -1,35 +1,27 @@
 -- Each form of a statement, computed: what it does to its frame, and its turn.
-use Rattle.std.specs.Prelude.{◌≡◌, ℕ, List, Bool, false, true, [], ◌∷◌, ◌++◌, replicate, length, ℤ, pos, negsuc, Ok, Err, Option, Some, None, refl}
+use Rattle.std.specs.Prelude.{◌≡◌, ℕ, List, false, true, [], ◌∷◌, ◌++◌, replicate, ℤ, pos, negsuc, Ok, Err, Some, None, refl}
 use Rattle.sd_base.specs.declared.kinds.CheckKind.TheVariants as kind
 use Rattle.sd_base.specs.declared.kinds.FailKind.TheVariants as fail
-use Rattle.sd_base.specs.declared.actors.Fat.{Fat}
 use Rattle.checked_tree.specs.declared.stops.Stop.TheVariants.{Failed, Wild}
-use Rattle.checked_tree.specs.declared.shapes.Scalar.TheVariants.{Void, U8, I8, U16, I16, I32, U32, Pointer}
+use Rattle.checked_tree.specs.declared.shapes.Scalar.TheVariants.{U8, I8, I32, Pointer}
 use Rattle.checked_tree.specs.declared.kernel.KernelName.TheVariants as kernel
-use Rattle.checked_tree.specs.declared.kernel.Answer.TheVariants as answer
 use Rattle.checked_tree.specs.declared.sums.Sum.{Sum}
 use Rattle.checked_tree.specs.declared.expressions.CheckedExpr.{CheckedExpr}
 use Rattle.checked_tree.specs.declared.expressions.CheckedExpr.TheVariants as V
-use Rattle.checked_tree.specs.declared.expressions.Comparison.TheVariants as comparison_op
-use Rattle.checked_tree.specs.declared.expressions.PointerSum.TheVariants.{PointerPlus, PlusPointer, PointerMinus}
-use Rattle.checked_tree.specs.declared.statements.Argument.{Argument}
+use Rattle.checked_tree.specs.declared.expressions.PointerSum.TheVariants.{PointerPlus, PointerMinus}
 use Rattle.checked_tree.specs.declared.statements.PointerOperand.{PointerOperand}
-use Rattle.checked_tree.specs.declared.statements.Target.TheVariants as target
 use Rattle.checked_tree.specs.declared.statements.CheckedStmt.{CheckedStmt}
 use Rattle.checked_tree.specs.declared.statements.CheckedStmt.TheOpen as S
-use Rattle.checked_tree.specs.declared.statements.CheckedStmt.TheVariants as T
-use Rattle.checked_tree.specs.declared.units.CheckedFn.{CheckedFn}
 use Rattle.checked_tree.specs.Outcome.{Outcome}
 use Rattle.checked_tree.specs.Numbers.{converted, unary, arithmetic, comparison}
-use Rattle.checked_tree.specs.Bytes.{little_endian, low_bytes, bytes_at, overwritten, zeros}
-use Rattle.checked_tree.specs.Memory.{Memory, is_inside, read, written, load, store, cleared}
-use Rattle.checked_tree.specs.Conditions.{State, peek, form_value, condition}
+use Rattle.byte_memory.specs.Bytes.{little_endian, low_bytes, bytes_at, overwritten, zeros}
+use Rattle.checked_tree.specs.Memory.{is_inside, read, written, load, store, cleared}
+use Rattle.checked_tree.specs.Conditions.{peek, form_value, condition}
 use Rattle.checked_tree.specs.Eval.{tests, eval}
 use Rattle.checked_tree.specs.Operands.{null, operand, sum_value, bounded, taken, argument, arguments, optional_operand, optional_argument}
-use Rattle.checked_tree.specs.Act.{Turn, On, Into, Calls, Asks, Returns, Acted, act}
-use Rattle.checked_tree.specs.Step.{Frame, Activity, Next, Went, Wants, Ended, step_kept, step, answered, line, started}
+use Rattle.checked_tree.specs.Act.{On, Into, Calls, Asks, Returns, Acted, act}
 use Rattle.checked_tree.proofs.Equations.{at_forms}
-use Rattle.checked_tree.proofs.Sample.{state, memory, block, f, function, unit, number, return_number}
+use Rattle.checked_tree.proofs.Sample.{state, memory, f, number}
 
 -- what a statement does where the integer is n and the pointer p
 abbrev does : ℤ → ℤ → S.CheckedStmt-F CheckedStmt → Outcome Acted
@@ -42,10 +34,12 @@ goes_on_with locals = Ok (record { state = record { locals = locals; memory = me
 -- control goes on with the third integer of the block written so
 abbrev goes_on_writing : List ℕ → Outcome Acted
 goes_on_writing bytes = Ok (record {
-    state = record {
-        locals = pos 5 ∷ pos 24 ∷ pos 16 ∷ pos 28 ∷ [];
-        memory = record memory { bytes = replicate 16 0 ++ (1 ∷ 0 ∷ 0 ∷ 0 ∷ 254 ∷ 255 ∷ 255 ∷ 255 ∷ []) ++ (bytes ++ (9 ∷ [])) } };
-    turn = On })
+  state = record {
+    locals = pos 5 ∷ pos 24 ∷ pos 16 ∷ pos 28 ∷ [];
+    memory = record memory { bytes = replicate 16 0 ++ (1 ∷ 0 ∷ 0 ∷ 0 ∷ 254 ∷ 255 ∷ 255 ∷ 255 ∷ []) ++ (bytes ++ (9 ∷ [])) };
+  };
+  turn = On;
+})
 
 -- `*p`, checked, and unchecked
 abbrev checked_place : CheckedExpr

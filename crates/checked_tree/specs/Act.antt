@@ -1,26 +1,25 @@
 -- What one statement does to its frame's locals and to memory, and where control turns then. It speaks of no other frame.
-use Rattle.std.specs.Prelude.{ℕ, ◌+◌, Bool, true, false, List, [], ◌∷◌, ◌++◌, take, replicate, ℤ, pos, Option, Some, None, Ok, Err, slice_set}
+use Rattle.std.specs.Prelude.{ℕ, ◌+◌, Bool, List, ◌++◌, take, replicate, ℤ, pos, Option, Ok, slice_set}
 use Rattle.sd_base.specs.declared.actors.Fat.{Fat}
 use Rattle.checked_tree.specs.declared.kernel.KernelName.{KernelName}
 use Rattle.checked_tree.specs.declared.kernel.KernelCall.{KernelCall}
-use Rattle.checked_tree.specs.declared.shapes.Scalar.{Scalar}
 use Rattle.checked_tree.specs.declared.units.CheckedFn.{CheckedFn}
 use Rattle.checked_tree.specs.declared.statements.CheckedStmt.{CheckedStmt}
 use Rattle.checked_tree.specs.declared.statements.CheckedStmt.TheOpen as S
-use Rattle.checked_tree.specs.Outcome.{Outcome, Got, ◌>>=◌}
+use Rattle.checked_tree.specs.Outcome.{Outcome, ◌>>=◌}
 use Rattle.checked_tree.specs.Numbers.{holds}
 use Rattle.checked_tree.specs.Memory.{Memory, store, cleared}
 use Rattle.checked_tree.specs.Conditions.{State}
 use Rattle.checked_tree.specs.Eval.{Keep, eval, tests}
-use Rattle.checked_tree.specs.Operands.{operand, taken, argument, arguments, optional_operand, optional_argument}
+use Rattle.checked_tree.specs.Operands.{operand, taken, arguments, optional_operand, optional_argument}
 
 -- where control turns after a statement
 pub data Turn : Type 0 where
-  On : Turn                              -- to the next statement
-  Into : Bool → Turn                     -- into the part that a test picks
-  Calls : ℕ → List ℤ → Turn              -- into the function with this number, with these arguments
-  Asks : KernelCall → Turn               -- to the kernel, for an answer
-  Returns : Option ℤ → Turn              -- back to the caller, with this result
+  On : Turn  -- to the next statement
+  Into : Bool → Turn  -- into the part that a test picks
+  Calls : ℕ → List ℤ → Turn  -- into the function with this number, with these arguments
+  Asks : KernelCall → Turn  -- to the kernel, for an answer
+  Returns : Option ℤ → Turn  -- back to the caller, with this result
 
 -- what a statement does: the state that it leaves, and its turn
 pub record Acted : Type 0 where

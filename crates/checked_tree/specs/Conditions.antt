@@ -1,8 +1,7 @@
 -- Evaluation without checks, and what a check tests. The atoms of a check are evaluated so: their own checks were tested before.
-use Rattle.std.specs.Prelude.{ℕ, Bool, true, false, not, ◌||◌, nat_eq, ◌==◌, List, [], ◌∷◌, ℤ, pos, negsuc, ◌+ℤ◌, ◌-ℤ◌, ◌*ℤ◌, int_le, int_rem, Option, Some, None, Ok, Err, slice_get, slice_index_or, if◌then◌else◌}
+use Rattle.std.specs.Prelude.{ℕ, Bool, true, false, not, ◌||◌, List, [], ◌∷◌, ℤ, pos, ◌+ℤ◌, ◌-ℤ◌, ◌*ℤ◌, int_le, int_rem, Option, Some, None, Ok, Err, slice_get, slice_index_or, if◌then◌else◌}
 use Rattle.std.specs.Ordering.{int_eq}
 use Rattle.dep_expr.specs.Linear.{LinearForm}
-use Rattle.dep_expr.specs.declared.inequality.Ineq.{Ineq}
 use Rattle.checked_tree.specs.declared.stops.Stop.TheVariants.{Wild}
 use Rattle.checked_tree.specs.declared.expressions.CheckedExpr.{CheckedExpr}
 use Rattle.checked_tree.specs.declared.expressions.CheckedExpr.TheOpen as E
@@ -14,8 +13,8 @@ use Rattle.checked_tree.specs.declared.expressions.PointerSum.TheVariants.{Point
 use Rattle.checked_tree.specs.declared.checks.Cond.{Cond}
 use Rattle.checked_tree.specs.declared.checks.Cond.TheVariants.{Le, Aligned, NonZero, Equal, Term, Kept}
 use Rattle.checked_tree.specs.Outcome.{Outcome, Got, ◌>>=◌}
-use Rattle.checked_tree.specs.Numbers.{converted, unary, arithmetic, comparison, truth, holds}
-use Rattle.checked_tree.specs.Memory.{Memory, load, read, is_clear}
+use Rattle.checked_tree.specs.Numbers.{unary, arithmetic, comparison, truth, holds}
+use Rattle.checked_tree.specs.Memory.{Memory, load, is_clear}
 
 -- what evaluation reads: the values of the slots, and the memory
 pub record State : Type 0 where

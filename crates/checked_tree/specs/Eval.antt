@@ -1,5 +1,5 @@
 -- Evaluation with checks: parts first, left to right, each with its checks; then the form's own checks; then its value.
-use Rattle.std.specs.Prelude.{ℕ, ◌-◌, Bool, true, false, List, [], ◌∷◌, ℤ, pos, Option, Some, None, Ok, Err, slice_get, slice_index_or, if◌then◌else◌}
+use Rattle.std.specs.Prelude.{ℕ, ◌-◌, Bool, true, false, List, [], ◌∷◌, Option, Some, None, Ok, Err, slice_get, slice_index_or, if◌then◌else◌}
 use Rattle.sd_base.specs.declared.kinds.FailKind.TheVariants as fail
 use Rattle.checked_tree.specs.declared.stops.Stop.TheVariants.{Failed, Wild}
 use Rattle.checked_tree.specs.declared.checks.Check.{Check}

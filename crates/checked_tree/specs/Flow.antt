@@ -1,8 +1,7 @@
 -- The flow graph of a function: its checks, its assignments of locals and its branches, in the order in which control meets them.
 --
 -- A node is a place in the flow of one statement, with the statements that are to do on either side. Walks go from node to node.
-use Rattle.std.specs.Prelude.{ℕ, ◌+◌, ◌<◌, ◌≡◌, nat_le, ◌==◌, Bool, true, false, not, ◌&&◌, ◌||◌, List, [], ◌∷◌, ◌++◌, ℤ, pos, negsuc, neg_ℤ, int_le, Option, Some, None, slice_get, if◌then◌else◌, Contains}
-use Rattle.sd_base.specs.declared.kinds.CheckKind.{CheckKind}
+use Rattle.std.specs.Prelude.{ℕ, ◌+◌, ◌≡◌, ◌==◌, Bool, true, false, not, ◌&&◌, ◌||◌, List, [], ◌∷◌, ℤ, pos, negsuc, neg_ℤ, int_le, Option, Some, None, slice_get, if◌then◌else◌, Contains}
 use Rattle.dep_expr.specs.Linear.{LinearForm, number_form, term_form, plus, scaled}
 use Rattle.checked_tree.specs.declared.shapes.Scalar.{Scalar}
 use Rattle.checked_tree.specs.declared.shapes.Scalar.TheVariants.{Void, U8, I8, U16, I16, I32, U32, Pointer}
@@ -31,22 +30,22 @@ use Rattle.checked_tree.specs.Step.{picked}
 
 -- what a walk meets
 pub data Event : Type 0 where
-  Tests : ℕ → Event                    -- the check with this number
-  Assigns : List ℕ → Event             -- new values in these slots
-  Finds : Option LinearForm → Event    -- an edge of a branch, with the form over slots that is at most 0 there, if it tells one
-  Passes : Event                       -- anything else
+  Tests : ℕ → Event  -- the check with this number
+  Assigns : List ℕ → Event  -- new values in these slots
+  Finds : Option LinearForm → Event  -- an edge of a branch, with the form over slots that is at most 0 there, if it tells one
+  Passes : Event  -- anything else
 
 -- what control meets in one statement, from its start or from a place in it
 pub data Flow : Type 0 where
-  Leaves : Bool → Flow                 -- the statement ends: a test by whether it holds, each other with true
-  Ends : Flow                          -- the function ends
+  Leaves : Bool → Flow  -- the statement ends: a test by whether it holds, each other with true
+  Ends : Flow  -- the function ends
   Meets : Event → Flow → Flow
-  Splits : Flow → Flow → Flow          -- a branch
+  Splits : Flow → Flow → Flow  -- a branch
 
 -- what one side of a comparison is, as far as facts go
 pub data Side : Type 0 where
-  OfSlot : ℕ → Side                    -- a local
-  OfNumber : ℤ → Scalar → Side         -- a constant: a number, a character, a `sizeof` or the negative of a number
+  OfSlot : ℕ → Side  -- a local
+  OfNumber : ℤ → Scalar → Side  -- a constant: a number, a character, a `sizeof` or the negative of a number
   OfNull : Side
   OfOther : Side
 

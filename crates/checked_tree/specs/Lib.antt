@@ -1,6 +1,5 @@
 pub mod Outcome
 pub mod Numbers
-pub mod Bytes
 pub mod Memory
 pub mod Conditions
 pub mod Eval

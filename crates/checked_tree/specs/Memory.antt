@@ -1,12 +1,12 @@
 -- The memory of a driver: its bytes and the blocks that were granted to it. An access that no one block contains has no meaning.
-use Rattle.std.specs.Prelude.{ℕ, ◌+◌, nat_le, Bool, ◌&&◌, List, ℤ, pos, negsuc, Ok, Err, if◌then◌else◌, Option, Some, None}
+use Rattle.std.specs.Prelude.{ℕ, ◌+◌, nat_le, Bool, ◌&&◌, List, ℤ, pos, negsuc, Ok, Err, if◌then◌else◌}
 use Rattle.std.specs.List.{list_any, list_all}
 use Rattle.sd_base.specs.Blocks.{Block, block_end}
 use Rattle.checked_tree.specs.declared.stops.Stop.TheVariants.{Wild}
 use Rattle.checked_tree.specs.declared.shapes.Scalar.{Scalar}
 use Rattle.checked_tree.specs.Outcome.{Outcome, Got}
 use Rattle.checked_tree.specs.Numbers.{converted, scalar_size, low_bits}
-use Rattle.checked_tree.specs.Bytes.{little_endian, low_bytes, bytes_at, overwritten, zeros}
+use Rattle.byte_memory.specs.Bytes.{little_endian, low_bytes, bytes_at, overwritten, zeros}
 use Rattle.std.specs.Prelude.{◌==◌}
 
 -- the bytes of the arena, and the blocks that are granted

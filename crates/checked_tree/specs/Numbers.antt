@@ -1,5 +1,5 @@
 -- The numbers of C99 with two's complement: types, conversions, and the operators on converted numbers.
-use Rattle.std.specs.Prelude.{ℕ, suc, ◌+◌, ◌-◌, ◌*◌, ◌/◌, ◌%◌, ◌^◌, ◌==◌, nat_lt, Bool, true, false, not, ◌&&◌, ◌||◌, ℤ, pos, negsuc, ◌+ℤ◌, ◌-ℤ◌, ◌*ℤ◌, neg_ℤ, int_lt, int_le, int_div, int_rem, Ok, Err, if◌then◌else◌, bit_and, bit_or, bit_xor}
+use Rattle.std.specs.Prelude.{ℕ, ◌-◌, ◌/◌, ◌%◌, ◌^◌, nat_lt, Bool, true, false, not, ◌&&◌, ℤ, pos, negsuc, ◌+ℤ◌, ◌-ℤ◌, ◌*ℤ◌, neg_ℤ, int_lt, int_le, int_div, int_rem, Ok, Err, if◌then◌else◌, bit_and, bit_or, bit_xor}
 use Rattle.std.specs.Ordering.{int_eq}
 use Rattle.checked_tree.specs.declared.stops.Stop.TheVariants.{Wild}
 use Rattle.checked_tree.specs.declared.shapes.Scalar.{Scalar}

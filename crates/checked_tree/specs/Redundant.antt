@@ -1,5 +1,5 @@
 -- Redundant checks, as a statement over all walks of the flow graph.
-use Rattle.std.specs.Prelude.{ℕ, ◌+◌, ◌≡◌, ◌⊎◌, IsTrue, ◌==◌, Bool, true, false, not, ◌&&◌, ◌||◌, List, [], ◌∷◌, ◌++◌, map, position, ℤ, pos, int_le, Option, Some, None, option_map, option_and_then, slice_get, if◌then◌else◌, All, Contains}
+use Rattle.std.specs.Prelude.{ℕ, ◌≡◌, ◌⊎◌, IsTrue, ◌==◌, Bool, true, false, not, ◌&&◌, ◌||◌, List, [], ◌∷◌, ◌++◌, map, position, ℤ, pos, int_le, Option, Some, None, option_map, slice_get, if◌then◌else◌, All, Contains}
 use Rattle.std.specs.List.{list_any, list_all, flat_map}
 use Rattle.std.specs.Ordering.{int_eq}
 use Rattle.dep_expr.specs.Linear.{LinearForm}
@@ -20,7 +20,6 @@ use Rattle.checked_tree.specs.declared.units.CheckedFn.{CheckedFn}
 use Rattle.checked_tree.specs.Conditions.{State, condition, is_multiple}
 use Rattle.checked_tree.specs.Eval.{check_of}
 use Rattle.checked_tree.specs.Flow.{Event, Tests, Assigns, Finds, Passes, Flow, Leaves, Ends, Meets, Splits, Node, own_flow, node_at, entry, Walks, is_at}
-use Rattle.checked_tree.specs.Outcome.{Outcome}
 use Rattle.std.specs.Prelude.{Ok}
 
 -- an expression that reads memory somewhere

@@ -1,5 +1,5 @@
 -- The step of an activity: one statement of its top frame, with all its checks. A failing step changes nothing.
-use Rattle.std.specs.Prelude.{ℕ, suc, ◌+◌, ◌-◌, nat_lt, Bool, true, false, List, [], ◌∷◌, ◌++◌, length, replicate, ℤ, pos, ◌+ℤ◌, Option, Some, None, Ok, Err, slice_get, slice_set, if◌then◌else◌}
+use Rattle.std.specs.Prelude.{ℕ, ◌-◌, nat_lt, Bool, true, false, List, [], ◌∷◌, ◌++◌, length, replicate, ℤ, pos, ◌+ℤ◌, Option, Some, None, Ok, Err, slice_get, slice_set, if◌then◌else◌}
 use Rattle.sd_base.specs.declared.actors.Fat.{Fat}
 use Rattle.sd_base.specs.declared.kinds.FailKind.TheVariants as fail
 use Rattle.checked_tree.specs.declared.stops.Stop.TheVariants.{Failed, Wild}
@@ -7,7 +7,7 @@ use Rattle.checked_tree.specs.declared.kernel.KernelCall.{KernelCall}
 use Rattle.checked_tree.specs.declared.kernel.Answer.{Answer}
 use Rattle.checked_tree.specs.declared.kernel.Answer.TheVariants as answer
 use Rattle.checked_tree.specs.declared.shapes.Scalar.{Scalar}
-use Rattle.checked_tree.specs.declared.shapes.Scalar.TheVariants.{Void, U8, I8, U16, I16, I32, U32, Pointer}
+use Rattle.checked_tree.specs.declared.shapes.Scalar.TheVariants.{Pointer}
 use Rattle.checked_tree.specs.declared.statements.Target.{Target}
 use Rattle.checked_tree.specs.declared.statements.Target.TheVariants as target
 use Rattle.checked_tree.specs.declared.statements.CheckedStmt.{CheckedStmt, out-CheckedStmt}
@@ -20,7 +20,7 @@ use Rattle.checked_tree.specs.Memory.{Memory}
 use Rattle.checked_tree.specs.Conditions.{State}
 use Rattle.checked_tree.specs.Eval.{Keep}
 use Rattle.checked_tree.specs.Operands.{null, bounded}
-use Rattle.checked_tree.specs.Act.{Turn, On, Into, Calls, Asks, Returns, Acted, with_local, with_pointer, pointer_set, act}
+use Rattle.checked_tree.specs.Act.{Turn, On, Into, Calls, Asks, Returns, with_local, with_pointer, pointer_set, act}
 use Rattle.std.specs.Ordering.{int_eq}
 
 -- a frame: the number of its function, the values of its slots, and the statements that it has still to do
@@ -35,9 +35,9 @@ Activity = List Frame
 
 -- what a step comes to
 pub data Next : Type 0 where
-  Went : Activity → Memory → Next              -- the activity goes on so
-  Wants : Activity → KernelCall → Next         -- it waits for an answer, at the same statement
-  Ended : Option ℤ → Next                      -- its first frame returned
+  Went : Activity → Memory → Next  -- the activity goes on so
+  Wants : Activity → KernelCall → Next  -- it waits for an answer, at the same statement
+  Ended : Option ℤ → Next  -- its first frame returned
 
 -- the line of a statement
 abbrev pub line_of : S.CheckedStmt-F CheckedStmt → ℕ

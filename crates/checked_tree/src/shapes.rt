@@ -45,10 +45,7 @@ pub enum Bounds {
     /// The end of a block of text, whose last byte stays 0.
     Nullterm,
     /// From the first edge up to the second, and without it.
-    Within {
-        lo: Edge,
-        hi: Edge,
-    },
+    Within { lo: Edge, hi: Edge },
 }
 
 /// What a slot, a member or an element holds.
@@ -57,10 +54,7 @@ pub enum Shape {
     /// An integer.
     Int(Scalar),
     /// A pointer to elements of the type with this number.
-    Pointer {
-        elem: u32,
-        bounds: Bounds,
-    },
+    Pointer { elem: u32, bounds: Bounds },
     /// The struct with this number.
     Struct(u32),
     /// An address that bounds a pointer: a hidden slot.

@@ -21,19 +21,11 @@ pub struct Argument {
 #[derive(Clone, Copy, PartialEq, Eq, Debug)]
 pub enum Target {
     /// An integer local, to whose type the result is converted.
-    Int {
-        slot: u32,
-        scalar: Scalar,
-    },
+    Int { slot: u32, scalar: Scalar },
     /// A nullterm pointer.
-    Nullterm {
-        slot: u32,
-    },
+    Nullterm { slot: u32 },
     /// A pointer whose bounds lie in two hidden slots, the first of them this one.
-    Automatic {
-        slot: u32,
-        hidden: u32,
-    },
+    Automatic { slot: u32, hidden: u32 },
 }
 
 /// A checked statement. `line` is that of its first word.

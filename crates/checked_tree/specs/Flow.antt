@@ -45,7 +45,7 @@ pub data Flow : Type 0 where
 -- what one side of a comparison is, as far as facts go
 pub data Side : Type 0 where
   OfSlot : ℕ → Side  -- a local
-  OfNumber : ℤ → Scalar → Side  -- a constant: a number, a character, a `sizeof` or the negative of a number
+  OfNumber : ℤ → Scalar → Side  -- a constant
   OfNull : Side
   OfOther : Side
 
@@ -85,25 +85,31 @@ abbrev pub slot_sign : Option Shape → Option Bool
 slot_sign (Some (shape.Int scalar)) = Some (is_unsigned scalar)
 slot_sign _ = None
 
--- a side of a comparison of integers: its form over slots, whether it is `unsigned`, and whether it is a constant of at least 0
+-- a side of a comparison of integers: its form over slots, whether it is `unsigned` and a local, and whether it is a constant of at least 0
 pub record IntSide : Type 0 where
   pub form : LinearForm
   pub is_unsigned : Bool
+  pub is_local : Bool
   pub is_natural : Bool
 
 abbrev pub slot_side : ℕ → Option Bool → Option IntSide
 slot_side slot None = None
-slot_side slot (Some sign) = Some (record { form = term_form (pos 1, slot); is_unsigned = sign; is_natural = false })
+slot_side slot (Some sign) = Some (record { form = term_form (pos 1, slot); is_unsigned = sign; is_local = true; is_natural = false })
 
 abbrev pub int_side : List Shape → Side → Option IntSide
 int_side slots (OfSlot slot) = slot_side slot (slot_sign (slice_get slots slot))
-int_side slots (OfNumber z scalar) = Some (record { form = number_form z; is_unsigned = is_unsigned scalar; is_natural = int_le (pos 0) z })
+int_side slots (OfNumber z scalar) = Some (record { form = number_form z; is_unsigned = is_unsigned scalar; is_local = false; is_natural = int_le (pos 0) z })
 int_side slots OfNull = None
 int_side slots OfOther = None
 
--- both sides are of one type after promotion, or one is an `unsigned` and the other a constant of at least 0: then the comparison is that of whole numbers
+-- one is an `unsigned` local, and the other a constant of at least 0
+abbrev pub local_beside_natural : IntSide → IntSide → Bool
+local_beside_natural a b = a.is_unsigned && (a.is_local && b.is_natural)
+
+-- the comparison is that of whole numbers: after promotion both sides are `int` or both `unsigned`, or one is an `unsigned` local and the other a constant of at least 0
 abbrev pub agree : IntSide → IntSide → Bool
-agree a b = (a.is_unsigned && (b.is_unsigned || b.is_natural)) || ((b.is_unsigned && a.is_natural) || (not a.is_unsigned && not b.is_unsigned))
+agree a b =
+    (a.is_unsigned && b.is_unsigned) || ((not a.is_unsigned && not b.is_unsigned) || (local_beside_natural a b || local_beside_natural b a))
 
 -- at most 0 where the first form is at most the second; where it is less
 abbrev pub at_most : LinearForm → LinearForm → LinearForm
@@ -162,16 +168,11 @@ leaf side facts value = Saw side facts value (λ holds fails. value (branch fact
 abbrev pub plain : (Flow → Flow) → Seen
 plain value = leaf OfOther (λ _. None) value
 
--- the negative of a number is a constant
-abbrev pub negative_side : Unary → Scalar → Side → Side
-negative_side unary_op.Negative scalar (OfNumber z own) = OfNumber (converted scalar (neg_ℤ z)) scalar
-negative_side _ scalar side = OfOther
-
 -- `!` exchanges the edges of its test; each other operator is a leaf
 abbrev pub unary_seen : Unary → Scalar → Seen → Seen
 unary_seen unary_op.Not scalar a = Saw OfOther (λ _. None) (as_value a) (λ holds fails. as_test a fails holds)
 unary_seen unary_op.Plus scalar a = plain (as_value a)
-unary_seen unary_op.Negative scalar a = leaf (negative_side unary_op.Negative scalar (side_of a)) (λ _. None) (as_value a)
+unary_seen unary_op.Negative scalar a = plain (as_value a)
 unary_seen unary_op.Complement scalar a = plain (as_value a)
 unary_seen unary_op.Cast scalar a = plain (as_value a)
 

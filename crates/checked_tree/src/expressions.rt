@@ -71,7 +71,8 @@ pub enum PointerSum {
 /// `checks` are the numbers of a form's own run-time checks, in the order in which they are tested: after its parts, before its value.
 #[derive(Debug, Drop)]
 pub enum CheckedExpr {
-    /// A constant: a number, a character or a `sizeof`, with its type after promotion.
+    /// A constant: a number, the negative of a number, a character or a `sizeof`, with its type after promotion. `-3` is the constant -3, `-5u`
+    /// is 4294967291; the negative of anything else, as `-'a'`, is a `Unary`.
     Number {
         value: i64,
         scalar: Scalar,

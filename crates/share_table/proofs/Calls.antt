@@ -1,5 +1,5 @@
 -- The calls as their goals show them: numbers cast to their bits and back, places computed, the table under its view.
-use Rattle.std.proofs.Common.{◌≡◌, ◌≢◌, ℕ, zero, suc, length, set, drop, ◌+◌, ◌-◌, ◌*◌, ◌<◌, ◌≤◌, Bool, true, false, cond, not, eqb, ltb, List, [], ◌∷◌, ◌++◌, ℤ, pos, negsuc, Option, Some, None, Result, Ok, Err, refl, ap, sym, ◌∙◌, subst, arith, get_or}
+use Rattle.std.proofs.Common.{◌≡◌, ℕ, zero, suc, length, set, ◌+◌, ◌-◌, ◌*◌, ◌<◌, ◌≤◌, Bool, true, false, cond, ltb, List, [], ◌∷◌, ◌++◌, ℤ, pos, negsuc, Option, Some, None, Result, Ok, Err, refl, ap, sym, ◌∙◌, subst, arith, get_or}
 use Rattle.std.proofs.lemmas.Bool.Decides.{nat_tests}
 use Rattle.std.proofs.lemmas.Int.{to_z-of_z}
 use Rattle.std.specs.Prelude.{count_by, MatchOption, OnOk, IsOk, is_err}
@@ -24,7 +24,7 @@ use Rattle.share_table.specs.Answers.{refusal_of_share}
 use Rattle.share_table.specs.Locks.{lock_at, HoldsLocks, is_who, has_holder, takes_lock}
 use Rattle.share_table.specs.Masks.{mask_at, HoldsMasks, any_held, is_mask}
 use Rattle.share_table.specs.Holds.{holds_at, HoldsHolds, IsCounts, held_by_all}
-use Rattle.share_table.specs.Queue.{is_owned, HoldsWork, put_refusal, IsQueue, others}
+use Rattle.share_table.specs.Queue.{is_owned, put_refusal, IsQueue, others}
 use Rattle.share_table.specs.Rows.{ShareRows}
 use Rattle.share_table.specs.Table.{HoldsShares, TakesFront}
 use Rattle.share_table.proofs.Locked.{unlock_unheld, unlock_done, loses_lock, IsFreedTo, freed_end, forgets_locks}

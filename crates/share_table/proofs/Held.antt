@@ -1,16 +1,14 @@
 -- The holds of a history, for each owner and domain.
-use Rattle.std.proofs.Common.{◌≡◌, ◌≢◌, ℕ, length, set, replicate, length-set, ◌+◌, ◌-◌, ◌*◌, ◌<◌, ◌≤◌, Bool, true, false, cond, not, ◌&&◌, eqb, ltb, List, [], ◌∷◌, ℤ, pos, negsuc, Option, Some, None, refl, ap, sym, ◌∙◌, subst, arith, get_or, get_or-set_same, get_or-set_other}
+use Rattle.std.proofs.Common.{◌≡◌, ◌≢◌, ℕ, length, set, replicate, length-set, ◌+◌, ◌-◌, ◌*◌, ◌<◌, ◌≤◌, Bool, true, false, cond, ◌&&◌, eqb, ltb, List, [], ◌∷◌, ℤ, pos, negsuc, Some, None, refl, ap, sym, ◌∙◌, subst, arith, get_or, get_or-set_same, get_or-set_other}
 use Rattle.std.proofs.lemmas.Bool.Decides.{nat_tests}
 use Rattle.std.proofs.lemmas.Int.{ints}
 use Rattle.std.specs.Prelude.{count_by}
-use Rattle.std.specs.List.{list_any, filter}
+use Rattle.std.specs.List.{list_any}
 use Rattle.std.specs.Ordering.{int_eq}
 use Rattle.sd_base.specs.declared.history.Refusal.TheVariants.{Bad, Full}
 use Rattle.sd_base.specs.declared.history.Update.TheVariants.{Hold, DropHold}
 use Rattle.sd_base.specs.Selection.{without_first, is_below}
-use Rattle.sd_base.specs.History.{Entry, History, OfHolds, Key, same_resource, key_of, hold_key, live_key, entry, is_owner, is_of, after_entry, live_of, Without}
-use Rattle.sd_base.specs.Allowed.{IsLawful, IsProper}
-use Rattle.sd_base.specs.Sound.{IsSound}
+use Rattle.sd_base.specs.History.{Entry, OfHolds, Key, same_resource, key_of, hold_key, entry, is_of, after_entry, live_of, Without}
 use Rattle.sd_base.specs.Part.{Serves, Loses, Forgets}
 use Rattle.sd_base.proofs.Counting.{count_by-cons}
 use Rattle.sd_base.proofs.Single.{count_by-none, count_by-some}

@@ -1,9 +1,9 @@
 -- The locks of a history, at each number.
-use Rattle.std.proofs.Common.{◌≡◌, ◌≢◌, ℕ, zero, suc, length, set, replicate, length-set, ◌+◌, ◌<◌, ◌≤◌, Bool, true, false, cond, not, ◌&&◌, eqb, ltb, List, [], ◌∷◌, ℤ, pos, negsuc, Option, Some, None, refl, ap, sym, ◌∙◌, subst, arith, get_or, get_or-set_same, get_or-set_other}
+use Rattle.std.proofs.Common.{◌≡◌, ◌≢◌, ℕ, zero, suc, length, set, replicate, length-set, ◌+◌, ◌<◌, ◌≤◌, Bool, true, false, cond, not, eqb, ltb, List, [], ◌∷◌, ℤ, pos, negsuc, Option, Some, None, refl, ap, sym, ◌∙◌, subst, arith, get_or, get_or-set_same, get_or-set_other}
 use Rattle.std.proofs.lemmas.Bool.Decides.{nat_tests}
 use Rattle.std.proofs.lemmas.Int.{ints}
 use Rattle.std.specs.Prelude.{count_by}
-use Rattle.std.specs.List.{list_any, find, filter}
+use Rattle.std.specs.List.{list_any, find}
 use Rattle.std.specs.Ordering.{int_eq}
 use Rattle.sd_base.specs.declared.actors.Who.{Who}
 use Rattle.sd_base.specs.declared.history.Refusal.{Refusal}
@@ -11,8 +11,8 @@ use Rattle.sd_base.specs.declared.history.Refusal.TheVariants.{Bad, HeldBy, Unhe
 use Rattle.sd_base.specs.declared.history.Update.{Update}
 use Rattle.sd_base.specs.declared.history.Update.TheVariants.{Lock, Unlock}
 use Rattle.sd_base.specs.Selection.{without_first, is_below, passes}
-use Rattle.sd_base.specs.History.{Entry, History, OfLocks, Key, same_resource, key_of, lock_key, live_key, entry, is_owner, is_of, after_entry, live_of, Without}
-use Rattle.sd_base.specs.Allowed.{is_lock, held_by, IsLawful, IsProper}
+use Rattle.sd_base.specs.History.{Entry, OfLocks, Key, same_resource, key_of, lock_key, live_key, entry, is_owner, is_of, after_entry, live_of, Without}
+use Rattle.sd_base.specs.Allowed.{is_lock, held_by}
 use Rattle.sd_base.specs.Sound.{IsSound}
 use Rattle.sd_base.specs.Part.{Serves, Loses}
 use Rattle.sd_base.proofs.Counting.{count_by-cons, count_by-filter_le}

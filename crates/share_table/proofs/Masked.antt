@@ -1,14 +1,11 @@
 -- The masks of a history, at each owner and task.
-use Rattle.std.proofs.Common.{◌≡◌, ◌≢◌, ℕ, length, set, replicate, length-set, ◌+◌, ◌*◌, ◌<◌, ◌≤◌, Bool, true, false, cond, not, ◌&&◌, eqb, ltb, List, [], ◌∷◌, ℤ, pos, Option, Some, None, refl, ap, sym, ◌∙◌, subst, arith, get_or, get_or-set_same, get_or-set_other}
+use Rattle.std.proofs.Common.{◌≡◌, ◌≢◌, ℕ, length, set, replicate, length-set, ◌+◌, ◌*◌, ◌<◌, ◌≤◌, Bool, true, false, cond, ◌&&◌, eqb, ltb, List, [], ◌∷◌, Some, None, refl, ap, sym, ◌∙◌, subst, arith, get_or, get_or-set_same, get_or-set_other}
 use Rattle.std.proofs.lemmas.Bool.Decides.{nat_tests}
-use Rattle.std.specs.Prelude.{count_by}
-use Rattle.std.specs.List.{list_any, filter}
-use Rattle.std.specs.Ordering.{int_eq}
+use Rattle.std.specs.List.{list_any}
 use Rattle.sd_base.specs.declared.history.Refusal.TheVariants.{Busy, Unheld}
 use Rattle.sd_base.specs.declared.history.Update.TheVariants.{Mask, Unmask}
 use Rattle.sd_base.specs.Selection.{without_first}
-use Rattle.sd_base.specs.History.{Entry, History, OfMasks, Key, same_resource, key_of, mask_key, live_key, entry, is_owner, is_of, after_entry, live_of, Without}
-use Rattle.sd_base.specs.Allowed.{IsLawful, IsProper}
+use Rattle.sd_base.specs.History.{Entry, OfMasks, Key, same_resource, key_of, mask_key, entry, is_of, after_entry, live_of, Without}
 use Rattle.sd_base.specs.Sound.{IsSound}
 use Rattle.sd_base.specs.Part.{Serves, Loses, Forgets}
 use Rattle.sd_base.proofs.SoundLive.{lawful_sound}

@@ -1,7 +1,7 @@
 -- Tests that pass entries of one kind alone: entries of other kinds, as they come and go, change nothing of what the tests see.
 use Rattle.std.proofs.Common.{◌≡◌, ℕ, ◌+◌, ◌≤◌, Bool, true, false, cond, List, [], ◌∷◌, Option, Some, None, refl, ap, sym, ◌∙◌, arith}
 use Rattle.std.specs.Prelude.{count_by}
-use Rattle.std.specs.List.{list_any, find, filter, filter_map}
+use Rattle.std.specs.List.{list_any, find, filter_map}
 use Rattle.sd_base.specs.Selection.{without_first}
 use Rattle.sd_base.specs.History.{Entry, Resource, OfNothing, Key, same_resource, key_of, live_key, is_of, after_entry}
 use Rattle.sd_base.proofs.Counting.{count_by-cons}

@@ -1,13 +1,10 @@
 -- The whole table, from what is proved of each of its four parts: an update of one kind leaves the parts of the others.
-use Rattle.std.proofs.Common.{◌≡◌, ℕ, ◌++◌, Bool, false, List, [], ◌∷◌, Option, Some, None, refl, ap, sym, ◌∙◌, subst}
+use Rattle.std.proofs.Common.{◌≡◌, ℕ, Bool, false, List, ◌∷◌, Option, Some, None, refl}
 use Rattle.sd_base.specs.declared.actors.Who.{Who}
 use Rattle.sd_base.specs.declared.history.Refusal.{Refusal}
 use Rattle.sd_base.specs.declared.history.Update.{Update}
 use Rattle.sd_base.specs.declared.history.Update.TheVariants.{Taken}
-use Rattle.sd_base.specs.Selection.{without_first}
-use Rattle.sd_base.specs.History.{Entry, History, OfLocks, OfMasks, OfHolds, OfWork, Key, same_resource, key_of, entry, is_of, after_entry, live_of, Without}
-use Rattle.sd_base.specs.Allowed.{IsLawful, IsProper}
-use Rattle.sd_base.specs.Sound.{IsSound}
+use Rattle.sd_base.specs.History.{OfLocks, OfMasks, OfHolds, OfWork, Key, same_resource, key_of, entry, live_of}
 use Rattle.sd_base.specs.Part.{Serves, Loses, Forgets}
 use Rattle.share_table.specs.declared.queue.Work.{Work}
 use Rattle.share_table.specs.Part.{ForgetsLawful}

@@ -1,19 +1,19 @@
 -- The queue of a history: its front, its end, and an owner's newest item.
-use Rattle.std.proofs.Common.{◌≡◌, ◌≢◌, ℕ, zero, suc, ◌++◌, length, reverse, take, drop, ◌+◌, ◌-◌, ◌*◌, ◌<◌, ◌≤◌, Bool, true, false, cond, not, ◌&&◌, ◌||◌, eqb, ltb, List, [], ◌∷◌, ℤ, Option, Some, None, refl, ap, sym, ◌∙◌, subst, arith, append-nil}
+use Rattle.std.proofs.Common.{◌≡◌, ℕ, ◌++◌, reverse, Bool, true, false, cond, not, eqb, ltb, List, [], ◌∷◌, ℤ, Option, Some, None, refl, ap, sym, ◌∙◌, arith, append-nil}
 use Rattle.std.proofs.lemmas.Bool.Decides.{nat_tests}
 use Rattle.std.proofs.lemmas.List.{reverse-reverse}
 use Rattle.std.specs.Prelude.{count_by}
-use Rattle.std.specs.List.{list_any, find, filter, filter_map, remove}
+use Rattle.std.specs.List.{list_any, filter, filter_map}
 use Rattle.sd_base.specs.declared.history.Refusal.{Refusal}
 use Rattle.sd_base.specs.declared.history.Refusal.TheVariants.{Bad, Full}
 use Rattle.sd_base.specs.declared.history.Update.{Update}
 use Rattle.sd_base.specs.declared.history.Update.TheVariants.{Work as Queues, Taken}
 use Rattle.sd_base.specs.Selection.{without_first, without_last, find_last, passes}
-use Rattle.sd_base.specs.History.{Entry, History, OfWork, Key, same_resource, key_of, work_key, live_key, entry, is_owner, has_key, is_of, after_entry, live_of, Without}
-use Rattle.sd_base.specs.Allowed.{unless_owner, IsLawful, IsProper}
+use Rattle.sd_base.specs.History.{Entry, OfWork, Key, same_resource, key_of, work_key, live_key, entry, is_owner, has_key, is_of, after_entry, live_of}
+use Rattle.sd_base.specs.Allowed.{unless_owner}
 use Rattle.sd_base.specs.Part.{Serves, Loses, Forgets}
-use Rattle.sd_base.proofs.Counting.{count_by-cons, count_by-reverse, reverse-cons}
-use Rattle.sd_base.proofs.Removal.{list_any-reverse, reverse-without_last}
+use Rattle.sd_base.proofs.Counting.{count_by-reverse, reverse-cons}
+use Rattle.sd_base.proofs.Removal.{reverse-without_last}
 use Rattle.sd_base.proofs.Rows.{filter_map-without_first, filter_map-without_last, count_by-filter_map, filter_map-filter}
 use Rattle.sd_base.proofs.Live.{rows-after_entry_other, rows-without_other, live_of-Without}
 use Rattle.share_table.specs.declared.queue.Work.{Work}

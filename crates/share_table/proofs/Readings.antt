@@ -1,14 +1,14 @@
 -- What the reading calls say of a history: whether any mask is held, whether an activity holds a lock, a domain's holds in all.
-use Rattle.std.proofs.Common.{◌≡◌, ℕ, zero, suc, length, ◌+◌, ◌*◌, ◌/◌, ◌%◌, ◌<◌, ◌≤◌, Bool, true, false, cond, ◌&&◌, ◌||◌, eqb, ltb, List, [], ◌∷◌, ℤ, pos, negsuc, Option, Some, None, refl, ap, sym, ◌∙◌, subst, arith, get_or}
+use Rattle.std.proofs.Common.{◌≡◌, ℕ, zero, suc, length, ◌+◌, ◌*◌, ◌/◌, ◌%◌, ◌<◌, ◌≤◌, Bool, true, false, cond, ◌&&◌, eqb, ltb, List, [], ◌∷◌, ℤ, pos, negsuc, Option, Some, None, refl, ap, sym, ◌∙◌, arith, get_or}
 use Rattle.std.proofs.lemmas.Bool.Decides.{nat_tests}
 use Rattle.std.proofs.lemmas.Int.{ints}
 use Rattle.std.specs.Prelude.{count_by}
 use Rattle.std.specs.List.{list_any, find}
 use Rattle.sd_base.specs.declared.actors.Who.{Who}
 use Rattle.sd_base.specs.declared.history.Update.{Update}
-use Rattle.sd_base.specs.declared.history.Update.TheVariants.{Lock, Hold, Mask}
+use Rattle.sd_base.specs.declared.history.Update.TheVariants.{Lock, Mask}
 use Rattle.sd_base.specs.Selection.{passes}
-use Rattle.sd_base.specs.History.{Entry, OfMasks, OfLocks, same_resource, live_key, hold_key, mask_key, lock_key, entry, has_key, is_of}
+use Rattle.sd_base.specs.History.{Entry, live_key, hold_key, mask_key, lock_key, entry, has_key, is_of}
 use Rattle.sd_base.specs.Allowed.{is_lock}
 use Rattle.sd_base.proofs.Counting.{count_by-cons}
 use Rattle.sd_base.specs.Sound.{IsSound}

@@ -1,5 +1,5 @@
 -- The queue as it turns, and what it keeps to.
-use Rattle.std.proofs.Common.{◌≡◌, ◌≢◌, ℕ, zero, suc, ◌++◌, length, take, drop, get_or, ◌+◌, ◌-◌, ◌*◌, ◌<◌, ◌≤◌, Bool, true, false, cond, not, ◌||◌, eqb, ltb, List, [], ◌∷◌, Option, Some, None, refl, ap, sym, ◌∙◌, subst, arith, append-nil, append_assoc, length-append, length-take, length-drop}
+use Rattle.std.proofs.Common.{◌≡◌, ◌≢◌, ℕ, zero, suc, ◌++◌, length, take, drop, get_or, ◌+◌, ◌-◌, ◌<◌, ◌≤◌, Bool, true, false, cond, not, eqb, ltb, List, [], ◌∷◌, Option, Some, None, refl, ap, sym, ◌∙◌, subst, arith, append-nil, append_assoc, length-append}
 use Rattle.std.proofs.lemmas.Bool.Decides.{nat_tests}
 use Rattle.std.proofs.lemmas.List.Edits.{remove-append_left}
 use Rattle.std.proofs.lemmas.List.Folds.{list_any-append}
@@ -8,7 +8,7 @@ use Rattle.std.specs.Prelude.{count_by, slice_get, MatchOption}
 use Rattle.circular_buffer.specs.Buffer.{Buffer, buffer}
 use Rattle.std.specs.List.{list_any, filter, remove}
 use Rattle.sd_base.specs.Selection.{passes, without_last}
-use Rattle.sd_base.proofs.Counting.{count_by-cons, count_by-append, count_by-filter_le, count_below, count_below-le, count_below-all}
+use Rattle.sd_base.proofs.Counting.{count_by-cons, count_by-append, count_by-filter_le, count_below-le, count_below-all}
 use Rattle.sd_base.proofs.Removal.{remove_last, list_any-filter_none, list_any-without_last, count_by-without_last}
 use Rattle.share_table.specs.declared.queue.Work.{Work}
 use Rattle.share_table.specs.Queue.{is_owned, is_astray, IsQueue, others, turned}

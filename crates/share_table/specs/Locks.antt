@@ -1,5 +1,5 @@
 -- Who holds each lock.
-use Rattle.std.specs.Prelude.{◌≡◌, ℕ, Bool, false, cond, ◌&&◌, ◌||◌, eqb, List, [], ◌∷◌, ℤ, pos, negsuc, Option, Some, None, slice_index_or}
+use Rattle.std.specs.Prelude.{◌≡◌, ℕ, Bool, cond, ◌&&◌, eqb, List, ℤ, pos, negsuc, Option, Some, None, slice_index_or}
 use Rattle.std.specs.List.{list_any, find}
 use Rattle.sd_base.specs.declared.actors.Who.{Who}
 use Rattle.sd_base.specs.declared.history.Refusal.{Refusal}

@@ -1,7 +1,7 @@
 -- The history of which the table holds its part.
 use Rattle.std.specs.Prelude.{◌≡◌, List, [], ◌∷◌, Option, Some, None}
 use Rattle.sd_base.specs.declared.history.Update.TheVariants.{Taken}
-use Rattle.sd_base.specs.History.{Entry, History, live_of}
+use Rattle.sd_base.specs.History.{Entry}
 use Rattle.sd_base.specs.Part.{Serves}
 use Rattle.share_table.specs.declared.queue.Work.{Work}
 use Rattle.share_table.specs.Locks.{HoldsLocks}

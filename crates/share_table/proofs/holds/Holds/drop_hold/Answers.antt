@@ -1,4 +1,4 @@
-use Rattle.std.proofs.Common.{◌≡◌, ◌≢◌, get_or, ◌+◌, ◌*◌, ◌<◌, ◌≤◌, ℕ, sym, ◌∙◌, ap, subst, arith}
+use Rattle.std.proofs.Common.{◌≡◌, ◌≢◌, get_or, ◌+◌, ◌*◌, ◌<◌, arith}
 use Rattle.sd_base.proofs.Numbered.{number_is_cast, number_none_cast}
 use Rattle.share_table.proofs.Calls.{drop_none_at, drop_zero_at, drop_done_at}
 use Rattle.share_table.proofs.holds.Holds.drop_hold.Goals as goal

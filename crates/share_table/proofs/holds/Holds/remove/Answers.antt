@@ -1,5 +1,5 @@
-use Rattle.std.proofs.Common.{◌≡◌, ◌+◌, ◌*◌, ◌<◌, ◌≤◌, ℕ, sym, ◌∙◌, ap, subst, arith}
-use Rattle.sd_base.proofs.Numbered.{number_is_cast, number_none_cast}
+use Rattle.std.proofs.Common.{◌≡◌, ◌+◌, ◌*◌, arith}
+use Rattle.sd_base.proofs.Numbered.{number_is_cast}
 use Rattle.share_table.proofs.Calls.{loses_hold_at}
 use Rattle.share_table.proofs.holds.Holds.remove.Goals as goal
 

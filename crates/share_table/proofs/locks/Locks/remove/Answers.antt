@@ -1,4 +1,4 @@
-use Rattle.sd_base.proofs.Numbered.{number_is_cast, number_none_cast}
+use Rattle.sd_base.proofs.Numbered.{number_is_cast}
 use Rattle.share_table.proofs.Calls.{loses_lock_at}
 use Rattle.share_table.proofs.locks.Locks.remove.Goals as goal
 

@@ -1,7 +1,7 @@
-use Rattle.std.proofs.Common.{◌≡◌, ℕ, sym, subst, get_or, None, true, false}
+use Rattle.std.proofs.Common.{◌≡◌, ℕ, sym, subst, get_or, None, false}
 use Rattle.sd_base.specs.Selection.{passes}
 use Rattle.share_table.specs.Locks.{is_who}
-use Rattle.sd_base.proofs.Numbered.{number_is_cast, number_none_cast}
+use Rattle.sd_base.proofs.Numbered.{number_is_cast}
 use Rattle.share_table.proofs.Calls.{unlock_unheld_at, unlock_done_at}
 use Rattle.share_table.proofs.locks.Locks.unlock.Goals as goal
 

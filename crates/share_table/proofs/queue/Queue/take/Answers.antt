@@ -1,4 +1,4 @@
-use Rattle.std.proofs.Common.{◌≡◌, sym, subst}
+use Rattle.std.proofs.Common.{sym, subst}
 use Rattle.circular_buffer.specs.Buffer.{Buffer}
 use Rattle.share_table.specs.declared.queue.Work.{Work}
 use Rattle.share_table.specs.Queue.{IsQueue}

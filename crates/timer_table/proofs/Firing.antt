@@ -1,13 +1,13 @@
 -- The timer that fires first, of a list that grows, and that it is the one to fire.
-use Rattle.std.proofs.Common.{◌≡◌, ℕ, zero, suc, ◌+◌, ◌++◌, take, ◌≤◌, Bool, true, false, cond, not, ◌&&◌, ◌||◌, ltb, List, [], ◌∷◌, Option, Some, None, refl, ap, sym, ◌∙◌, subst, arith}
+use Rattle.std.proofs.Common.{◌≡◌, ℕ, zero, suc, ◌+◌, ◌++◌, take, Bool, true, false, cond, ◌&&◌, ◌||◌, List, [], ◌∷◌, Option, Some, None, refl, ap, ◌∙◌, arith}
 use Rattle.std.proofs.lemmas.Bool.Decides.{nat_tests}
 use Rattle.std.proofs.lemmas.Int.{ints}
 use Rattle.std.specs.Prelude.{MatchOption, slice_get}
-use Rattle.std.specs.List.{list_any, filter, Contains}
+use Rattle.std.specs.List.{list_any, filter}
 use Rattle.std.proofs.lemmas.List.Elements.{Contains-append_left, Contains-append_right, Contains-push}
 use Rattle.sd_base.proofs.Removal.{list_any-wider}
 use Rattle.timer_table.specs.declared.fired.Fired.{Fired}
-use Rattle.timer_table.specs.Order.{comes_before, fires_before, earlier, first_to_fire, is_due, earlier_if_due, next_of}
+use Rattle.timer_table.specs.Order.{fires_before, earlier, first_to_fire, is_due, earlier_if_due, next_of}
 use Rattle.timer_table.specs.Table.{IsNext}
 
 fires-through : (x b y : Fired) → fires_before x b ≡ true → fires_before b y ≡ true → fires_before x y ≡ true

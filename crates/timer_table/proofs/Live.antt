@@ -1,15 +1,13 @@
 -- The timers of a history, after one more update and without what an owner put there.
-use Rattle.std.proofs.Common.{◌≡◌, ℕ, Bool, true, false, cond, not, ◌||◌, eqb, ltb, List, ◌∷◌, ℤ, Option, Some, None, refl, ap, sym, ◌∙◌, subst, arith}
-use Rattle.std.proofs.lemmas.Bool.Decides.{nat_tests}
+use Rattle.std.proofs.Common.{◌≡◌, ℕ, false, cond, not, ◌||◌, eqb, ltb, List, ℤ, Option, Some, None, refl, ap, sym, ◌∙◌, arith}
 use Rattle.std.specs.Prelude.{count_by}
-use Rattle.std.specs.List.{list_any, filter, filter_map}
+use Rattle.std.specs.List.{list_any, filter_map}
 use Rattle.sd_base.specs.declared.history.Update.{Update}
 use Rattle.sd_base.specs.declared.history.Update.TheVariants.{Timer, DelTimer, Fired as Fires}
 use Rattle.sd_base.specs.declared.history.Refusal.{Refusal}
 use Rattle.sd_base.specs.declared.history.Refusal.TheVariants.{Bad, Full}
 use Rattle.sd_base.specs.Selection.{without_first, is_below, passes}
-use Rattle.sd_base.specs.History.{Entry, History, OfTimers, Key, same_resource, key_of, timer_key, live_key, entry, is_owner, is_of, is_of_kind, after_entry, live_of, Without}
-use Rattle.sd_base.specs.Allowed.{refusal, IsLawful, IsProper}
+use Rattle.sd_base.specs.History.{Entry, OfTimers, Key, same_resource, key_of, timer_key, live_key, entry, is_owner, is_of, is_of_kind, after_entry, live_of, Without}
 use Rattle.sd_base.specs.Part.{Serves, Loses, Forgets}
 use Rattle.sd_base.proofs.Rows.{filter_map-without_first, list_any-filter_map, count_by-filter_map, filter_map-filter}
 use Rattle.sd_base.proofs.Live.{rows-after_entry_other, rows-without_other, live_of-Without}

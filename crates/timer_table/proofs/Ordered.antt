@@ -1,15 +1,14 @@
 -- Timers by owner and id: where one stands, and what is found, put in and taken away there.
-use Rattle.std.proofs.Common.{◌≡◌, ◌≢◌, ℕ, zero, suc, ◌++◌, length, get_or, take, drop, set, ◌+◌, ◌-◌, ◌*◌, ◌<◌, ◌≤◌, Bool, true, false, cond, not, ◌&&◌, ◌||◌, eqb, ltb, List, [], ◌∷◌, ℤ, pos, int_lt, Option, Some, None, refl, ap, sym, ◌∙◌, subst, arith}
-use Rattle.std.proofs.lemmas.Bool.Decides.{nat_tests, Decides-int_eq}
+use Rattle.std.proofs.Common.{◌≡◌, ℕ, zero, suc, length, take, drop, set, ◌+◌, ◌<◌, Bool, true, false, cond, ◌||◌, List, [], ◌∷◌, ℤ, pos, Option, Some, refl, ap, sym, ◌∙◌, subst, arith}
+use Rattle.std.proofs.lemmas.Bool.Decides.{nat_tests}
 use Rattle.std.proofs.lemmas.Int.{ints}
 use Rattle.std.proofs.lemmas.List.Sums.{sum_by-take-drop}
 use Rattle.std.specs.Prelude.{count_by, slice_get}
-use Rattle.std.specs.List.{insert, remove, list_any, filter, filter_map}
-use Rattle.std.specs.Ordering.{int_eq}
+use Rattle.std.specs.List.{insert, remove, list_any}
 use Rattle.sd_base.specs.Selection.{without_first, passes}
 use Rattle.sd_base.proofs.Counting.{count_by-cons}
 use Rattle.timer_table.specs.declared.fired.Fired.{Fired}
-use Rattle.timer_table.specs.Order.{is_timer, is_owner's, comes_before, insert_row, by_owner_and_id}
+use Rattle.timer_table.specs.Order.{is_timer, is_owner's, comes_before, insert_row}
 use Rattle.sd_base.proofs.Removal.{list_any-without_first, without_first-none}
 use Rattle.sd_base.proofs.Single.{count_by-none}
 use Rattle.timer_table.proofs.Keyed.{set-insert_remove}

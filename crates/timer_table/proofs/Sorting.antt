@@ -1,5 +1,5 @@
 -- Timers put in order, against removals, filters and counts of the list that they came from.
-use Rattle.std.proofs.Common.{◌≡◌, ℕ, zero, suc, length, ◌+◌, ◌≤◌, Bool, true, false, cond, not, ◌||◌, List, [], ◌∷◌, ℤ, refl, ap, sym, ◌∙◌, subst, arith}
+use Rattle.std.proofs.Common.{◌≡◌, ℕ, ◌+◌, Bool, true, false, cond, ◌||◌, List, [], ◌∷◌, ℤ, refl, ap, sym, ◌∙◌, arith}
 use Rattle.std.specs.Prelude.{count_by}
 use Rattle.std.specs.List.{list_any, filter}
 use Rattle.sd_base.specs.Selection.{without_first}
@@ -8,7 +8,7 @@ use Rattle.sd_base.proofs.Removal.{list_any-without_first, list_any-filter_none}
 use Rattle.timer_table.specs.declared.fired.Fired.{Fired}
 use Rattle.timer_table.specs.Order.{is_timer, comes_before, insert_row, by_owner_and_id}
 use Rattle.timer_table.specs.Table.{IsAscending}
-use Rattle.timer_table.proofs.Ordered.{none-after, is_timer-key, list_any-insert_row, count_by-insert_row, length-insert_row, IsAscending-insert_row}
+use Rattle.timer_table.proofs.Ordered.{none-after, is_timer-key, list_any-insert_row, count_by-insert_row, IsAscending-insert_row}
 
 -- before all that is not before it
 insert_row-front : (x : Fired) (rows : List Fired) → list_any (comes_before x.owner x.id) rows ≡ false → insert_row x rows ≡ x ∷ rows

@@ -1,18 +1,17 @@
 -- The table after a timer was put in or taken out.
-use Rattle.std.proofs.Common.{◌≡◌, ℕ, zero, suc, length, ◌+◌, ◌*◌, ◌<◌, ◌≤◌, Bool, true, false, cond, not, ◌||◌, eqb, ltb, List, [], ◌∷◌, ℤ, pos, negsuc, int_lt, Option, Some, None, refl, ap, sym, ◌∙◌, subst, arith}
+use Rattle.std.proofs.Common.{◌≡◌, ℕ, zero, suc, length, ◌+◌, ◌<◌, ◌≤◌, Bool, true, false, cond, not, ◌||◌, ltb, List, [], ◌∷◌, ℤ, pos, negsuc, int_lt, Option, Some, refl, ap, sym, ◌∙◌, subst, arith}
 use Rattle.std.proofs.lemmas.Bool.Decides.{nat_tests}
 use Rattle.std.proofs.lemmas.Int.{ints}
 use Rattle.std.specs.Prelude.{count_by, slice_get, is_some}
 use Rattle.sd_base.specs.Numbers.{number_of}
-use Rattle.std.specs.List.{list_any, filter}
-use Rattle.std.specs.Ordering.{int_eq}
+use Rattle.std.specs.List.{list_any}
 use Rattle.sd_base.specs.Selection.{without_first, is_below, passes}
-use Rattle.sd_base.proofs.Counting.{count_by-cons, count_below, count_below-le, count_below-all}
-use Rattle.sd_base.proofs.Removal.{without_first-none, count_by-without_first, list_any-without_first, filter-without_first_other}
+use Rattle.sd_base.proofs.Counting.{count_by-cons, count_below-le, count_below-all}
+use Rattle.sd_base.proofs.Removal.{count_by-without_first, list_any-without_first, filter-without_first_other}
 use Rattle.timer_table.specs.declared.fired.Fired.{Fired}
-use Rattle.timer_table.specs.Order.{is_timer, is_owner's, comes_before, insert_row}
-use Rattle.timer_table.specs.Table.{IsAscending, is_astray, IsTable, place_in, set_refusal, with_timer, without_timer, without_owner}
-use Rattle.timer_table.proofs.Ordered.{place_in-cons, place_in-none, none-after, list_any-insert_row, count_by-insert_row, IsAscending-insert_row, IsAscending-without_first}
+use Rattle.timer_table.specs.Order.{is_timer, is_owner's, comes_before}
+use Rattle.timer_table.specs.Table.{IsAscending, is_astray, IsTable, place_in, with_timer, without_timer, without_owner}
+use Rattle.timer_table.proofs.Ordered.{place_in-cons, place_in-none, list_any-insert_row, count_by-insert_row, IsAscending-insert_row, IsAscending-without_first}
 
 -- where one passes the narrower test, the wider one counts one fewer without it
 count_by-without_there : (p q : Fired → Bool) → ((x : Fired) → p x ≡ true → q x ≡ true) → (xs : List Fired) → list_any p xs ≡ true →

@@ -1,5 +1,5 @@
 -- Live timers, the order by owner and id in which they are kept, and the order in which they fire.
-use Rattle.std.specs.Prelude.{◌≡◌, ℕ, Bool, true, false, cond, not, ◌&&◌, ◌||◌, eqb, ltb, List, [], ◌∷◌, ℤ, int_lt, Option, Some, None}
+use Rattle.std.specs.Prelude.{ℕ, Bool, cond, not, ◌&&◌, ◌||◌, eqb, ltb, List, [], ◌∷◌, ℤ, int_lt, Option, Some, None}
 use Rattle.std.specs.List.{filter, filter_map}
 use Rattle.std.specs.Ordering.{int_eq}
 use Rattle.sd_base.specs.declared.history.Update.{Update}

@@ -1,5 +1,5 @@
 -- The table of timers: what it keeps to, and the history of which it holds its part.
-use Rattle.std.specs.Prelude.{cond, ◌&&◌, Option, Some, None, Result, Ok, Err, ◌≡◌, ℕ, ◌≤◌, Bool, true, false, not, ◌||◌, ltb, List, [], ◌∷◌, ℤ, pos, int_lt, count_by}
+use Rattle.std.specs.Prelude.{cond, ◌&&◌, Option, Some, None, Result, Ok, Err, ◌≡◌, ℕ, ◌≤◌, Bool, false, not, ◌||◌, ltb, List, [], ◌∷◌, ℤ, pos, int_lt, count_by}
 use Rattle.std.specs.List.{list_any, filter, Contains}
 use Rattle.sd_base.specs.declared.history.Refusal.{Refusal}
 use Rattle.sd_base.specs.declared.history.Refusal.TheVariants.{Bad, Full}

@@ -1,6 +1,4 @@
-use Rattle.std.proofs.Common.{◌≡◌, ◌+◌, ◌++◌, ◌∷◌, [], Some, sym, ◌∙◌, ap, take, arith}
-use Rattle.std.proofs.lemmas.Option.{slice_get_within, get_or_from_slice_get}
-use Rattle.std.specs.Prelude.{slice_get}
+use Rattle.std.proofs.Common.{◌≡◌, ◌+◌, ◌++◌, ◌∷◌, [], sym, ◌∙◌, ap, take}
 use Rattle.timer_table.specs.Order.{earlier_if_due, next_of}
 use Rattle.timer_table.proofs.Firing.{next_of-append, take-more}
 use Rattle.timer_table.proofs.edits.next.Goals as goal

@@ -1,4 +1,4 @@
-use Rattle.std.proofs.Common.{◌≡◌, ◌<◌, ◌≤◌, ℕ, ℤ, Bool, ◌||◌, ltb, length, sym, ◌∙◌, subst, ap, true, false, Some, None, Option, rules, arith}
+use Rattle.std.proofs.Common.{◌≡◌, ◌<◌, ◌||◌, ltb, sym, ◌∙◌, subst, ap, true, false, rules, arith}
 use Rattle.std.proofs.lemmas.Bool.Decides.{nat_tests}
 use Rattle.std.proofs.lemmas.Int.{to_z-of_z}
 use Rattle.std.specs.Prelude.{is_some, count_by}
@@ -6,9 +6,8 @@ use Rattle.std.specs.List.{list_any}
 use mir.Syntax.{w32}
 use mir.Val.{SFits}
 use Rattle.sd_base.specs.Numbers.{number_of}
-use Rattle.sd_base.specs.Selection.{is_below}
 use Rattle.timer_table.specs.Order.{is_timer, is_owner's}
-use Rattle.timer_table.specs.Table.{IsTable, place_in, with_timer}
+use Rattle.timer_table.specs.Table.{IsTable, place_in}
 use Rattle.timer_table.proofs.Ordered.{replaced_at, inserted_at}
 use Rattle.timer_table.proofs.Tables.{IsTable-with_timer, room_for, in_range_of}
 use Rattle.timer_table.proofs.edits.put.Goals as goal

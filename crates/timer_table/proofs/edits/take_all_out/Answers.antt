@@ -1,11 +1,11 @@
-use Rattle.std.proofs.Common.{◌≡◌, ◌≢◌, ◌<◌, length, sym, ◌∙◌, subst, ap, true, false, Some, None, pos, refl, rules, arith}
+use Rattle.std.proofs.Common.{◌≡◌, ◌≢◌, ◌<◌, length, sym, ◌∙◌, subst, ap, false, Some, None, pos, refl, rules, arith}
 use Rattle.std.proofs.lemmas.Bool.Decides.{nat_tests}
 use Rattle.std.proofs.lemmas.Int.{to_z-of_z}
 use Rattle.std.specs.Prelude.{slice_get}
 use mir.Syntax.{w32}
 use mir.Val.{SFits}
 use Rattle.timer_table.specs.Order.{is_owner's}
-use Rattle.timer_table.specs.Table.{IsTable, place_in, without_owner, without_timer}
+use Rattle.timer_table.specs.Table.{place_in, without_owner, without_timer}
 use Rattle.timer_table.proofs.Tables.{none_left, shorter, first_stays, others_stay}
 use Rattle.timer_table.proofs.edits.take_all_out.Goals as goal
 

@@ -1,4 +1,4 @@
-use Rattle.std.proofs.Common.{◌≡◌, ◌≤◌, length, pos}
+use Rattle.std.proofs.Common.{◌≡◌, length, pos}
 use Rattle.timer_table.specs.Table.{IsTable, place_in, without_owner}
 use Rattle.timer_table.proofs.edits.take_all_out.Given as goal
 

@@ -1,9 +1,8 @@
-use Rattle.std.proofs.Common.{◌≡◌, ◌<◌, length, sym, ◌∙◌, subst, true, false}
+use Rattle.std.proofs.Common.{◌≡◌, sym, ◌∙◌, subst, true, false}
 use Rattle.std.proofs.lemmas.Int.{to_z-of_z}
-use Rattle.std.specs.List.{remove, list_any}
+use Rattle.std.specs.List.{list_any}
 use mir.Syntax.{w32}
 use mir.Val.{SFits}
-use Rattle.sd_base.specs.Selection.{without_first}
 use Rattle.sd_base.proofs.Removal.{without_first-none}
 use Rattle.timer_table.specs.Order.{is_timer}
 use Rattle.timer_table.specs.Table.{IsTable, place_in}

@@ -1,10 +1,9 @@
-use Rattle.std.proofs.Common.{◌≡◌, ◌≤◌, ◌<◌, ◌+◌, ◌-◌, ◌/◌, true, false, Some, ℤ, sym, ◌∙◌, ap, subst, length, take, drop, arith}
+use Rattle.std.proofs.Common.{◌≡◌, ◌+◌, ◌-◌, ◌/◌, Some, sym, ◌∙◌, subst, drop, arith}
 use Rattle.std.proofs.lemmas.Int.{to_z-of_z}
 use Rattle.std.proofs.lemmas.Option.{slice_get_within}
 use Rattle.std.specs.Prelude.{slice_get}
 use mir.Syntax.{w32}
 use mir.Val.{SFits, of_z, to_z}
-use Rattle.timer_table.specs.Order.{comes_before}
 use Rattle.timer_table.specs.Table.{place_in}
 use Rattle.timer_table.proofs.Ordered.{place_in-take, place_in-drop, place_in-parts}
 use Rattle.timer_table.proofs.places.place_of.Goals as goal

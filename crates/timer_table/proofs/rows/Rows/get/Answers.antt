@@ -1,4 +1,4 @@
-use Rattle.std.proofs.Common.{◌≡◌, sym, ◌∙◌, ap, arith}
+use Rattle.std.proofs.Common.{sym, ◌∙◌, arith}
 use Rattle.timer_table.proofs.Keyed.{row_at, row_past}
 use Rattle.timer_table.proofs.rows.Rows.get.Goals as goal
 

@@ -1,5 +1,4 @@
-use Rattle.std.proofs.Common.{◌≡◌, ◌<◌, ◌≤◌, sym, ◌∙◌, ap, subst, length, arith, lit<}
-use Rattle.std.specs.List.{insert}
+use Rattle.std.proofs.Common.{ap, length, arith, lit<}
 use Rattle.timer_table.proofs.Keyed.{rows_length, rows_insert}
 use Rattle.timer_table.proofs.rows.Rows.insert.Goals as goal
 

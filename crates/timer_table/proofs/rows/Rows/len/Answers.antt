@@ -1,4 +1,4 @@
-use Rattle.std.proofs.Common.{◌≡◌, sym, ◌∙◌, ap, length}
+use Rattle.std.proofs.Common.{sym, ◌∙◌}
 use Rattle.timer_table.proofs.Keyed.{rows_length}
 use Rattle.timer_table.proofs.rows.Rows.len.Goals as goal
 

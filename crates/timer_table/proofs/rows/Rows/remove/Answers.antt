@@ -1,4 +1,4 @@
-use Rattle.std.proofs.Common.{◌≡◌, ◌<◌, sym, ◌∙◌, ap, length, arith, lit<}
+use Rattle.std.proofs.Common.{sym, ap, length, arith, lit<}
 use Rattle.timer_table.proofs.Keyed.{rows_length, rows_remove}
 use Rattle.timer_table.proofs.rows.Rows.remove.Goals as goal
 

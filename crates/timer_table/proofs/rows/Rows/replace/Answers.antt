@@ -1,8 +1,5 @@
-use Rattle.std.proofs.Common.{◌≡◌, ◌<◌, sym, ◌∙◌, ap, length, subst, get_or, set, true, arith}
+use Rattle.std.proofs.Common.{◌≡◌, ◌<◌, ap, length, get_or, arith}
 use Rattle.std.proofs.lemmas.List.{get_or_default}
-use Rattle.std.specs.Prelude.{is_some}
-use Rattle.std.specs.List.{filter_map}
-use Rattle.slab.specs.Slab.{get, with_value}
 use Rattle.timer_table.proofs.Keyed.{rows_length, rows_replace, listed}
 use Rattle.timer_table.proofs.rows.Rows.replace.Goals as goal
 

@@ -1,4 +1,4 @@
-use Rattle.std.proofs.Common.{◌≡◌, List, subst}
+use Rattle.std.proofs.Common.{List, subst}
 use Rattle.sd_base.specs.Part.{Forgets}
 use Rattle.timer_table.specs.declared.fired.Fired.{Fired}
 use Rattle.timer_table.specs.Table.{HoldsTimers}

@@ -1,4 +1,4 @@
-use Rattle.std.proofs.Common.{◌≡◌, sym, ◌∙◌, ap, subst, false}
+use Rattle.std.proofs.Common.{◌≡◌, sym, subst, false}
 use Rattle.std.specs.Prelude.{MatchOption}
 use Rattle.std.specs.List.{list_any}
 use Rattle.timer_table.specs.Order.{is_due}

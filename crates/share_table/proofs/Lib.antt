@@ -1,0 +1,9 @@
+pub mod OtherKinds
+pub mod Locked
+pub mod Masked
+pub mod Held
+pub mod Queued
+pub mod Parts
+pub mod Readings
+pub mod Turns
+pub mod Calls

@@ -1,0 +1,8 @@
+pub mod Answers
+pub mod Part
+pub mod Locks
+pub mod Masks
+pub mod Holds
+pub mod Queue
+pub mod Rows
+pub mod Table

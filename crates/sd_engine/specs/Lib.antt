@@ -1,6 +1,7 @@
 pub mod Command
 pub mod Meaning
 pub mod Serve
+pub mod Statuses
 pub mod ThinRun
 pub mod ThinScenario
 pub mod ThinText

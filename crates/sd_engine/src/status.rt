@@ -1,5 +1,6 @@
 //! The status of a command.
-ghost use Rattle.std.specs.Prelude.{◌≤◌};
+ghost use Rattle.std.specs.Prelude.{◌≡◌};
+ghost use Rattle.sd_engine.specs.Statuses.{name_of, number_of};
 
 /// How a command ended. The numbers are the exit statuses, in this order from 0.
 #[derive(Clone, Copy, PartialEq, Eq, Debug)]
@@ -27,13 +28,25 @@ pub enum Status {
 impl Status {
     /// The exit status, from 0 to 8.
     pub fn number(self) -> u8
-        ensures { result ≤ 8 }
+        ensures { result ≡ number_of self }
     {
-        self as u8
+        match self {
+            Status::Done => 0,
+            Status::Refused => 1,
+            Status::Usage => 2,
+            Status::ReadFault => 3,
+            Status::WriteFault => 4,
+            Status::OutOfMemory => 5,
+            Status::TooLong => 6,
+            Status::BadScenario => 7,
+            Status::DriverFailed => 8,
+        }
     }
 
     /// The status's name, for a person.
-    pub fn name(self) -> &'static str {
+    pub fn name(self) -> &'static str
+        ensures { result.now ≡ name_of self }
+    {
         match self {
             Status::Done => "Done",
             Status::Refused => "Refused",

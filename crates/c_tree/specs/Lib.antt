@@ -3,6 +3,7 @@ pub mod Characters
 pub mod Division
 pub mod ExpressionGrammar
 pub mod Gaps
+pub mod ItemGrammar
 pub mod Limits
 pub mod Names
 pub mod Numbers
@@ -11,5 +12,7 @@ pub mod Reading
 pub mod Short
 pub mod Signs
 pub mod Spelling
+pub mod StatementGrammar
 pub mod TypeGrammar
+pub mod Units
 pub mod Words

@@ -5,3 +5,5 @@ pub mod Statuses
 pub mod ThinRun
 pub mod ThinScenario
 pub mod ThinText
+pub mod Programs
+pub mod ThinProgram

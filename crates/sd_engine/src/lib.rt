@@ -4,6 +4,7 @@
 
 mod command;
 mod status;
+mod thin_program;
 mod thin_run;
 mod thin_scenario;
 mod thin_text;

@@ -1,44 +1,52 @@
 //! A thin run: one driver, one task, and the lines as they come.
 ghost use Rattle.std.specs.Prelude.{◌≡◌, ◌≤◌, ◌++◌, ◌∷◌, [], IfOk, OnOk, OnErr, length};
-ghost use Rattle.std.specs.Fmt.{decimal};
+ghost use Rattle.std.specs.Fmt.{signed_decimal};
 ghost use Rattle.sd_outside.specs.Counts.{HasCause};
 ghost use Rattle.sd_outside.specs.Sink.{IsCut, more};
-ghost use Rattle.sd_engine.specs.ThinRun.{event_lines, number_line as line_of_number, run_lines, stage_after, steps_at as steps_before, steps_of, thin_lines};
+ghost use Rattle.sd_engine.specs.ThinRun.{event_lines, last_line as line_at_end, lines_from, number_line as line_of_number, run_lines, run_stage, stage_after};
 
+use crate::thin_program::Statement;
 use crate::thin_scenario::Event;
-use crate::thin_text::Statement;
 use sd_base::Line;
 use sd_outside::{Sink, WriteFault, write_all};
+
+/// The most steps of a run: one for each statement that is run.
+const MOST_STEPS: usize = 100_000;
 
 /// How far a thin run has come.
 #[derive(Clone, Copy, PartialEq, Eq, Debug)]
 pub enum Stage {
+    /// The driver has no function `init`, so it is never loaded.
+    NoInit,
     /// The driver is not loaded.
     Absent,
     /// The driver is loaded, and its `init` stands before its first statement on task 1.
     Ready,
     /// `init` has ended, after this many steps.
     Over(usize),
+    /// A step was needed when the most steps had been taken. Nothing more takes place.
+    Stopped,
 }
 
-/// Serves the events of a thin scenario over the statements of a thin text, and writes each line as it comes, the line
-/// `end N` with the number of steps last. It takes no memory.
+/// Serves the events of a thin scenario from a stage on, over the statements of `init`, and writes each line as it comes, last the line `end N`
+/// with the number of steps, or `bound N` where the most steps did not suffice. It takes no memory.
 ///
 /// `WriteFault`: a write failed; a front part of the lines was written.
 pub fn thin_run<K: Sink>(
     sink: &mut K,
+    first: Stage,
     statements: &[Statement],
     events: &[Event],
 ) -> Result<(), WriteFault>
-    ensures ok { OnOk result (K.written sink.new ≡ more (K.written sink.old) (thin_lines statements.now events.now)) }
-    ensures err { OnErr result (IsCut (K.written sink.new) (more (K.written sink.old) (thin_lines statements.now events.now))) }
+    ensures ok { OnOk result (K.written sink.new ≡ more (K.written sink.old) (lines_from statements.now first events.now)) }
+    ensures err { OnErr result (IsCut (K.written sink.new) (more (K.written sink.old) (lines_from statements.now first events.now))) }
     ensures cause { HasCause (K.faults sink.old) (K.faults sink.new) result }
 {
-    let mut stage = Stage::Absent;
+    let mut stage = first;
     for event in events {
         stage = thin_event(sink, statements, stage, *event)?;
     }
-    let ended = write_number(sink, b"end ", steps_at(stage));
+    let ended = write_last(sink, stage);
     ended
 }
 
@@ -55,55 +63,86 @@ fn thin_event<K: Sink>(
     ensures cause { HasCause (K.faults sink.old) (K.faults sink.new) result }
 {
     match event {
-        Event::Load => match stage {
-            Stage::Absent => {
-                write_all(sink, b"d1 loaded\n")?;
-                Ok(Stage::Ready)
-            }
-            Stage::Ready | Stage::Over(_) => {
-                write_all(sink, b"d1 load refused: loaded\n")?;
-                Ok(stage)
-            }
-        },
+        Event::Load => load(sink, stage),
         Event::Finish => match stage {
-            Stage::Ready => {
-                let steps = run_init(sink, statements)?;
-                Ok(Stage::Over(steps))
-            }
-            Stage::Absent | Stage::Over(_) => {
+            Stage::Ready => run_init(sink, statements),
+            Stage::NoInit | Stage::Absent | Stage::Over(_) => {
                 write_all(sink, b"t1 idle\n")?;
                 Ok(stage)
             }
+            Stage::Stopped => Ok(stage),
         },
     }
 }
 
-/// Runs the statements to the first return, and answers the number of steps.
-fn run_init<K: Sink>(sink: &mut K, statements: &[Statement]) -> Result<usize, WriteFault>
-    ensures ok { OnOk result (K.written sink.new ≡ more (K.written sink.old) (run_lines statements.now)) }
-    ensures steps { IfOk result (λ steps. steps ≡ steps_of statements.now) }
-    ensures err { OnErr result (IsCut (K.written sink.new) (more (K.written sink.old) (run_lines statements.now))) }
+/// Loads the driver, where it has an `init` and is not loaded.
+fn load<K: Sink>(sink: &mut K, stage: Stage) -> Result<Stage, WriteFault>
+    ensures ok { OnOk result (K.written sink.new ≡ more (K.written sink.old) (event_lines [] stage Event.Load)) }
+    ensures next { IfOk result (λ next. next ≡ stage_after [] stage Event.Load) }
+    ensures err { OnErr result (IsCut (K.written sink.new) (more (K.written sink.old) (event_lines [] stage Event.Load))) }
+    ensures cause { HasCause (K.faults sink.old) (K.faults sink.new) result }
+{
+    match stage {
+        Stage::NoInit => {
+            write_all(sink, b"d1 load refused: no init\n")?;
+            Ok(stage)
+        }
+        Stage::Absent => {
+            write_all(sink, b"d1 loaded\n")?;
+            Ok(Stage::Ready)
+        }
+        Stage::Ready | Stage::Over(_) => {
+            write_all(sink, b"d1 load refused: loaded\n")?;
+            Ok(stage)
+        }
+        Stage::Stopped => Ok(stage),
+    }
+}
+
+/// Runs the statements to the first return, or to the most steps, and answers the stage then.
+fn run_init<K: Sink>(sink: &mut K, statements: &[Statement]) -> Result<Stage, WriteFault>
+    ensures ok { OnOk result (K.written sink.new ≡ more (K.written sink.old) (run_lines 0 statements.now)) }
+    ensures next { IfOk result (λ next. next ≡ run_stage 0 statements.now) }
+    ensures err { OnErr result (IsCut (K.written sink.new) (more (K.written sink.old) (run_lines 0 statements.now))) }
     ensures cause { HasCause (K.faults sink.old) (K.faults sink.new) result }
 {
     let mut steps = 0;
     for statement in statements {
+        if steps == MOST_STEPS {
+            return Ok(Stage::Stopped);
+        }
+        steps += 1;
         match statement {
-            Statement::Print(number) => {
-                write_number(sink, b"d1 t1 print ", *number as usize)?;
-                steps += 1;
-            }
+            Statement::Print(number) => write_number(sink, b"d1 t1 print ", *number as i128)?,
             Statement::Return(number) => {
-                write_number(sink, b"d1 t1 done ", *number as usize)?;
-                return Ok(steps + 1);
+                write_number(sink, b"d1 t1 done ", *number as i128)?;
+                return Ok(Stage::Over(steps));
             }
+            Statement::Empty => {}
         }
     }
+    if steps == MOST_STEPS {
+        return Ok(Stage::Stopped);
+    }
     write_number(sink, b"d1 t1 done ", 0)?;
-    Ok(steps + 1)
+    Ok(Stage::Over(steps + 1))
+}
+
+/// Writes the last line of a run.
+fn write_last<K: Sink>(sink: &mut K, stage: Stage) -> Result<(), WriteFault>
+    ensures ok { OnOk result (K.written sink.new ≡ more (K.written sink.old) (line_at_end stage)) }
+    ensures err { OnErr result (IsCut (K.written sink.new) (more (K.written sink.old) (line_at_end stage))) }
+    ensures cause { HasCause (K.faults sink.old) (K.faults sink.new) result }
+{
+    match stage {
+        Stage::NoInit | Stage::Absent | Stage::Ready => write_number(sink, b"end ", 0),
+        Stage::Over(steps) => write_number(sink, b"end ", steps as i128),
+        Stage::Stopped => write_number(sink, b"bound ", MOST_STEPS as i128),
+    }
 }
 
 /// Writes a line that ends in a number.
-fn write_number<K: Sink>(sink: &mut K, front: &[u8], number: usize) -> Result<(), WriteFault>
+fn write_number<K: Sink>(sink: &mut K, front: &[u8], number: i128) -> Result<(), WriteFault>
     requires { length front.now ≤ 100 }
     ensures ok { OnOk result (K.written sink.new ≡ more (K.written sink.old) (line_of_number front.now number)) }
     ensures err { OnErr result (IsCut (K.written sink.new) (more (K.written sink.old) (line_of_number front.now number))) }
@@ -115,23 +154,13 @@ fn write_number<K: Sink>(sink: &mut K, front: &[u8], number: usize) -> Result<()
 }
 
 /// A line that ends in a number, with its line feed.
-fn number_line(front: &[u8], number: usize) -> Line
+fn number_line(front: &[u8], number: i128) -> Line
     requires { length front.now ≤ 100 }
     ensures { result ≡ line_of_number front.now number }
 {
     let mut line = Line::new();
     line.put_text(front);
-    line.put_dec(number as i128);
+    line.put_dec(number);
     line.put_text(b"\n");
     line
-}
-
-/// The steps that were taken before a stage.
-fn steps_at(stage: Stage) -> usize
-    ensures { result ≡ steps_before stage }
-{
-    match stage {
-        Stage::Over(steps) => steps,
-        Stage::Absent | Stage::Ready => 0,
-    }
 }

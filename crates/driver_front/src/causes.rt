@@ -1,0 +1,36 @@
+//! `Cause`: why a driver text is refused.
+ghost use Rattle.std.specs.Prelude.{◌≡◌};
+ghost use Rattle.driver_front.specs.Verdict.{spelling_of};
+
+/// Why a driver text is refused, as it is printed.
+#[derive(Clone, Copy, PartialEq, Eq, Debug)]
+pub enum Cause {
+    /// At some byte no word begins.
+    Word,
+    /// The words go on with no item.
+    Item,
+    /// A declaration stands against the rules of declarations.
+    Type,
+    /// No rule derives a head, a parameter, a local or a statement.
+    Rule,
+    /// A limit is passed.
+    Limit,
+    /// An item uses what is not served yet.
+    Later,
+}
+
+impl Cause {
+    /// The cause as one word.
+    pub fn spelling(self) -> &'static [u8]
+        ensures { result.now ≡ spelling_of self }
+    {
+        match self {
+            Cause::Word => b"word",
+            Cause::Item => b"item",
+            Cause::Type => b"type",
+            Cause::Rule => b"rule",
+            Cause::Limit => b"limit",
+            Cause::Later => b"later",
+        }
+    }
+}

@@ -10,9 +10,12 @@ pub mod Numbers
 pub mod Operators
 pub mod Reading
 pub mod Short
+pub mod ShortUnit
 pub mod Signs
 pub mod Spelling
 pub mod StatementGrammar
+pub mod StatementSpelling
 pub mod TypeGrammar
+pub mod UnitSpelling
 pub mod Units
 pub mod Words

@@ -1,9 +1,4 @@
-pub mod Commands
 pub mod Empty
 pub mod Fronts
-pub mod Pieces
 pub mod Runs
 pub mod Scenarios
-pub mod Served
-pub mod Statements
-pub mod Words

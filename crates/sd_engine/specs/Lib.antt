@@ -1,9 +1,9 @@
 pub mod Command
 pub mod Meaning
+pub mod Programs
 pub mod Serve
 pub mod Statuses
+pub mod ThinProgram
 pub mod ThinRun
 pub mod ThinScenario
-pub mod ThinText
-pub mod Programs
-pub mod ThinProgram
+pub mod Verdict

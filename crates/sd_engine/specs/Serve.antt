@@ -1,32 +1,62 @@
 -- What the top call answers, and what it writes.
-use Rattle.std.specs.Prelude.{◌≡◌, ℕ, ◌<◌, ◌≤◌, ◌⊎◌, List, [], ◌∷◌, length, Option, IfSome, codes}
+use Rattle.std.specs.Prelude.{◌≡◌, ℕ, ◌+◌, ◌<◌, ◌≤◌, ◌⊎◌, List, [], ◌∷◌, ◌++◌, length, Option, IfSome, pos, codes}
 use Rattle.sd_outside.specs.Sink.{more, IsCut}
 use Rattle.sd_outside.specs.declared.read.TextFault.{TextFault}
 use Rattle.sd_outside.specs.declared.read.TextFault.TheVariants as fault
+use Rattle.driver_front.specs.declared.causes.Cause.{Cause}
 use Rattle.sd_engine.specs.declared.status.Status.{Status}
 use Rattle.sd_engine.specs.declared.status.Status.TheVariants as status
-use Rattle.sd_engine.specs.declared.thin_text.Statement.{Statement}
+use Rattle.sd_engine.specs.declared.thin_program.Statement.{Statement}
+use Rattle.sd_engine.specs.declared.thin_run.Stage.{Stage}
+use Rattle.sd_engine.specs.declared.thin_run.Stage.TheVariants as stage
 use Rattle.sd_engine.specs.declared.thin_scenario.Event.{Event}
 use Rattle.sd_engine.specs.Command.{CommandWords, run_words, check_words}
-use Rattle.sd_engine.specs.ThinText.{IsThin}
+use Rattle.sd_engine.specs.ThinProgram.{no_item, init}
+use Rattle.sd_engine.specs.ThinRun.{number_line, lines_from}
 use Rattle.sd_engine.specs.ThinScenario.{IsScenario}
-use Rattle.sd_engine.specs.ThinRun.{thin_lines}
+use Rattle.sd_engine.specs.Verdict.{IsServedAs, IsRefused, IsAccepted, refusal_line}
 
 -- the most bytes of a text
 abbrev pub most_bytes : ℕ
 most_bytes = 1048576
 
+-- a text that a run serves from this stage on, with these statements of `init`
+pub data Starts (t : List ℕ) : Stage → List Statement → Type 0 where
+  without_init : IsServedAs t no_item → Starts t stage.NoInit []
+  with_init : {statements : List Statement} → IsServedAs t (init statements) → Starts t stage.Absent statements
+
 -- what a run over these two texts writes, and its status where it is written whole
 pub data RunAnswers (scenario driver : List ℕ) : List ℕ → Status → Type 0 where
-  run_refused : ((list : List Statement) → IsThin driver list → ⊥) → RunAnswers scenario driver (codes "refused 1 0 later\n") status.Refused
-  bad_scenario : {list : List Statement} → IsThin driver list → ((events : List Event) → IsScenario scenario events → ⊥)
+  run_refused : {n : ℕ} {c : Cause} → IsRefused driver n c → RunAnswers scenario driver (refusal_line 1 n c) status.Refused
+  bad_scenario : {first : Stage} {list : List Statement} → Starts driver first list → ((events : List Event) → IsScenario scenario events → ⊥)
       → RunAnswers scenario driver (codes "scenario 0\n") status.BadScenario
-  run_done : {list : List Statement} {events : List Event} → IsThin driver list → IsScenario scenario events → RunAnswers scenario driver (thin_lines list events) status.Done
+  run_done : {first : Stage} {list : List Statement} {events : List Event} → Starts driver first list → IsScenario scenario events
+      → RunAnswers scenario driver (lines_from list first events) status.Done
 
--- what a check of this text writes, and its status where it is written whole
-pub data CheckAnswers (driver : List ℕ) : List ℕ → Status → Type 0 where
-  check_refused : ((list : List Statement) → IsThin driver list → ⊥) → CheckAnswers driver (codes "refused 1 0 later\n") status.Refused
-  accepted : {list : List Statement} → IsThin driver list → CheckAnswers driver (codes "accepted 1\n") status.Done
+-- the first text that is refused, counted from k, with its line and cause
+pub data FirstRefused : ℕ → List (List ℕ) → ℕ → ℕ → Cause → Type 0 where
+  refused_here : {k n : ℕ} {c : Cause} {t : List ℕ} {ts : List (List ℕ)} → IsRefused t n c → FirstRefused k (t ∷ ts) k n c
+  refused_later : {k j n : ℕ} {c : Cause} {t : List ℕ} {ts : List (List ℕ)} → IsAccepted t → FirstRefused (k + 1) ts j n c → FirstRefused k (t ∷ ts) j n c
+
+-- each text is accepted
+pub data AreAccepted : List (List ℕ) → Type 0 where
+  no_text : AreAccepted []
+  next_text : {t : List ℕ} {ts : List (List ℕ)} → IsAccepted t → AreAccepted ts → AreAccepted (t ∷ ts)
+
+-- no text is too long
+abbrev pub AreShort : List (List ℕ) → Type 0
+AreShort [] = Unit {0}
+AreShort (t ∷ ts) = (length t ≤ most_bytes) × AreShort ts
+
+-- a line for each text that is accepted, counted from k
+abbrev pub accepted_lines : ℕ → List (List ℕ) → List ℕ
+accepted_lines k [] = []
+accepted_lines k (t ∷ ts) = number_line (codes "accepted ") (pos k) ++ accepted_lines (k + 1) ts
+
+-- what a check of these texts writes, and its status where it is written whole
+pub data CheckAnswers (texts : List (List ℕ)) : List ℕ → Status → Type 0 where
+  check_refused : {k n : ℕ} {c : Cause} → FirstRefused 1 texts k n c → CheckAnswers texts (refusal_line k n c) status.Refused
+  accepted : AreAccepted texts → CheckAnswers texts (accepted_lines 1 texts) status.Done
 
 -- what was written, by the status: all of the answer, or a front part of one where a write failed
 pub data IsWritten (answers : List ℕ → Status → Type 0) (before now : Option (List ℕ)) : Status → Type 0 where
@@ -38,21 +68,36 @@ pub record IsText (left : Option (List ℕ)) (text : List ℕ) : Type 0 where
   pub is : IfSome left (λ bytes. text ≡ bytes)
   pub short : length text ≤ most_bytes
 
+-- texts that were read, one for each name
+pub data AreTexts (left : List ℕ → Option (List ℕ)) : List (List ℕ) → List (List ℕ) → Type 0 where
+  no_file : AreTexts left [] []
+  next_file : {name text : List ℕ} {names texts : List (List ℕ)} → IsText (left name) text → AreTexts left names texts → AreTexts left (name ∷ names) (text ∷ texts)
+
+-- the texts are those that were there before and, behind them, those of the names
+pub record AreTextsBehind (left : List ℕ → Option (List ℕ)) (names before now : List (List ℕ)) : Type 0 where
+  pub read : List (List ℕ)
+  pub behind : now ≡ before ++ read
+  pub texts : AreTexts left names read
+
 -- some texts were read for the command, and this was written
 abbrev pub IsServed : (left : List ℕ → Option (List ℕ)) (before now : Option (List ℕ)) (s : Status) → CommandWords → Type 0
 IsServed left before now s (run_words scenario driver) =
     (plan : List ℕ) × (text : List ℕ) × IsText (left scenario) plan × IsText (left driver) text × IsWritten (RunAnswers plan text) before now s
-IsServed left before now s (check_words driver) = (text : List ℕ) × IsText (left driver) text × IsWritten (CheckAnswers text) before now s
+IsServed left before now s (check_words files) = (texts : List (List ℕ)) × AreTexts left files texts × IsWritten (CheckAnswers texts) before now s
 
 -- the text is too long, where it is told
 abbrev pub IsLong : Option (List ℕ) → Type 0
 IsLong left = IfSome left (λ bytes. most_bytes < length bytes)
 
+-- the first file that was not read whole is too long
+abbrev pub IsFirstLong : (left : List ℕ → Option (List ℕ)) → List (List ℕ) → Type 0
+IsFirstLong left [] = ⊥
+IsFirstLong left (name ∷ names) = IsLong (left name) ⊎ (IfSome (left name) (λ bytes. length bytes ≤ most_bytes) × IsFirstLong left names)
+
 -- the first file of the command that was not read whole is too long
 abbrev pub IsTooLong : (left : List ℕ → Option (List ℕ)) → CommandWords → Type 0
-IsTooLong left (run_words scenario driver) =
-    IsLong (left scenario) ⊎ (IfSome (left scenario) (λ bytes. length bytes ≤ most_bytes) × IsLong (left driver))
-IsTooLong left (check_words driver) = IsLong (left driver)
+IsTooLong left (run_words scenario driver) = IsFirstLong left (scenario ∷ driver ∷ [])
+IsTooLong left (check_words files) = IsFirstLong left files
 
 -- the statuses of a call that wrote nothing
 abbrev pub WritesNothing : Status → Type 0

@@ -2,13 +2,14 @@
 //! sink, and the status comes back.
 #![tactic(auto)]
 
+mod check;
 mod command;
+mod drivers;
 mod status;
+mod texts;
 mod thin_program;
 mod thin_run;
 mod thin_scenario;
-mod thin_text;
-mod thin_words;
 mod top_call;
 
 pub use status::Status;

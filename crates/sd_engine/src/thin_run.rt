@@ -3,7 +3,7 @@ ghost use Rattle.std.specs.Prelude.{◌≡◌, ◌≤◌, ◌++◌, ◌∷◌, [
 ghost use Rattle.std.specs.Fmt.{signed_decimal};
 ghost use Rattle.sd_outside.specs.Counts.{HasCause};
 ghost use Rattle.sd_outside.specs.Sink.{IsCut, more};
-ghost use Rattle.sd_engine.specs.ThinRun.{event_lines, last_line as line_at_end, lines_from, number_line as line_of_number, run_lines, run_stage, stage_after};
+ghost use Rattle.sd_engine.specs.ThinRun.{event_lines, last_line as line_at_end, lines_from, load_line as line_of_load, loaded as stage_of_load, is_return as ends_function, number_line as line_of_number, run_lines, run_stage, stage_after, statement_line as line_of_statement};
 
 use crate::thin_program::Statement;
 use crate::thin_scenario::Event;
@@ -63,7 +63,10 @@ fn thin_event<K: Sink>(
     ensures cause { HasCause (K.faults sink.old) (K.faults sink.new) result }
 {
     match event {
-        Event::Load => load(sink, stage),
+        Event::Load => {
+            write_all(sink, load_line(stage))?;
+            Ok(loaded(stage))
+        }
         Event::Finish => match stage {
             Stage::Ready => run_init(sink, statements),
             Stage::NoInit | Stage::Absent | Stage::Over(_) => {
@@ -75,27 +78,25 @@ fn thin_event<K: Sink>(
     }
 }
 
-/// Loads the driver, where it has an `init` and is not loaded.
-fn load<K: Sink>(sink: &mut K, stage: Stage) -> Result<Stage, WriteFault>
-    ensures ok { OnOk result (K.written sink.new ≡ more (K.written sink.old) (event_lines [] stage Event.Load)) }
-    ensures next { IfOk result (λ next. next ≡ stage_after [] stage Event.Load) }
-    ensures err { OnErr result (IsCut (K.written sink.new) (more (K.written sink.old) (event_lines [] stage Event.Load))) }
-    ensures cause { HasCause (K.faults sink.old) (K.faults sink.new) result }
+/// What a load writes at a stage.
+fn load_line(stage: Stage) -> &'static [u8]
+    ensures { result.now ≡ line_of_load stage }
 {
     match stage {
-        Stage::NoInit => {
-            write_all(sink, b"d1 load refused: no init\n")?;
-            Ok(stage)
-        }
-        Stage::Absent => {
-            write_all(sink, b"d1 loaded\n")?;
-            Ok(Stage::Ready)
-        }
-        Stage::Ready | Stage::Over(_) => {
-            write_all(sink, b"d1 load refused: loaded\n")?;
-            Ok(stage)
-        }
-        Stage::Stopped => Ok(stage),
+        Stage::NoInit => b"d1 load refused: no init\n",
+        Stage::Absent => b"d1 loaded\n",
+        Stage::Ready | Stage::Over(_) => b"d1 load refused: loaded\n",
+        Stage::Stopped => b"",
+    }
+}
+
+/// The stage after a load.
+fn loaded(stage: Stage) -> Stage
+    ensures { result ≡ stage_of_load stage }
+{
+    match stage {
+        Stage::Absent => Stage::Ready,
+        Stage::NoInit | Stage::Ready | Stage::Over(_) | Stage::Stopped => stage,
     }
 }
 
@@ -111,21 +112,49 @@ fn run_init<K: Sink>(sink: &mut K, statements: &[Statement]) -> Result<Stage, Wr
         if steps == MOST_STEPS {
             return Ok(Stage::Stopped);
         }
+        write_statement(sink, *statement)?;
         steps += 1;
-        match statement {
-            Statement::Print(number) => write_number(sink, b"d1 t1 print ", *number as i128)?,
-            Statement::Return(number) => {
-                write_number(sink, b"d1 t1 done ", *number as i128)?;
-                return Ok(Stage::Over(steps));
-            }
-            Statement::Empty => {}
+        if is_return(*statement) {
+            return Ok(Stage::Over(steps));
         }
     }
     if steps == MOST_STEPS {
         return Ok(Stage::Stopped);
     }
-    write_number(sink, b"d1 t1 done ", 0)?;
+    write_statement(sink, Statement::Return(0))?;
     Ok(Stage::Over(steps + 1))
+}
+
+/// Whether a statement ends the function.
+fn is_return(statement: Statement) -> bool
+    ensures { result ≡ ends_function statement }
+{
+    match statement {
+        Statement::Return(_) => true,
+        Statement::Print(_) | Statement::Empty => false,
+    }
+}
+
+/// Writes the line of a statement.
+fn write_statement<K: Sink>(sink: &mut K, statement: Statement) -> Result<(), WriteFault>
+    ensures ok { OnOk result (K.written sink.new ≡ more (K.written sink.old) (line_of_statement statement)) }
+    ensures err { OnErr result (IsCut (K.written sink.new) (more (K.written sink.old) (line_of_statement statement))) }
+    ensures cause { HasCause (K.faults sink.old) (K.faults sink.new) result }
+{
+    let line = statement_line(statement);
+    let written = write_all(sink, line.bytes());
+    written
+}
+
+/// The line of a statement; an empty one has none.
+fn statement_line(statement: Statement) -> Line
+    ensures { result ≡ line_of_statement statement }
+{
+    match statement {
+        Statement::Print(number) => number_line(b"d1 t1 print ", number as i128),
+        Statement::Return(number) => number_line(b"d1 t1 done ", number as i128),
+        Statement::Empty => Line::new(),
+    }
 }
 
 /// Writes the last line of a run.
@@ -142,7 +171,7 @@ fn write_last<K: Sink>(sink: &mut K, stage: Stage) -> Result<(), WriteFault>
 }
 
 /// Writes a line that ends in a number.
-fn write_number<K: Sink>(sink: &mut K, front: &[u8], number: i128) -> Result<(), WriteFault>
+pub fn write_number<K: Sink>(sink: &mut K, front: &[u8], number: i128) -> Result<(), WriteFault>
     requires { length front.now ≤ 100 }
     ensures ok { OnOk result (K.written sink.new ≡ more (K.written sink.old) (line_of_number front.now number)) }
     ensures err { OnErr result (IsCut (K.written sink.new) (more (K.written sink.old) (line_of_number front.now number))) }

@@ -1,15 +1,18 @@
 //! The top call.
-ghost use Rattle.std.specs.Prelude.{◌≡◌, ◌≢◌, ◌↔◌, IfSome, None, map};
+ghost use Rattle.std.specs.Prelude.{◌≡◌, ◌≢◌, ◌≤◌, ◌↔◌, IfSome, None, length, map, true};
 ghost use Rattle.std.specs.String.{string_bytes};
 ghost use Rattle.sd_outside.specs.Counts.{Rose, RoseBeyond};
-ghost use Rattle.sd_engine.specs.Command.{check_words, command_of, run_words};
-ghost use Rattle.sd_engine.specs.Serve.{CheckAnswers, IsAfterTexts, IsPossible, IsServed, IsTooLong, IsWritten, RunAnswers, Writes, WritesNothing, status_of};
+ghost use Rattle.sd_engine.specs.Command.{all_differ, check_words, command_of, run_words};
+ghost use Rattle.sd_engine.specs.Serve.{IsAfterTexts, IsPossible, IsServed, IsTooLong, IsWritten, RunAnswers, Starts, Writes, WritesNothing, status_of};
 
 use crate::command::{Command, read_words};
 use crate::status::Status;
-use crate::thin_run::thin_run;
+use crate::check::{Refusal, check_texts, write_refusal};
+use crate::drivers::{Verdict, verdict_of};
+use crate::texts::read_texts;
+use crate::thin_program::Statement;
+use crate::thin_run::{Stage, thin_run};
 use crate::thin_scenario::thin_scenario;
-use crate::thin_text::thin_text;
 use sd_outside::{Shelf, Sink, TextFault, read_text, write_all};
 use std::alloc::Global;
 
@@ -50,7 +53,7 @@ pub fn serve<S: Shelf, K: Sink>(
     };
     match command {
         Command::Run { scenario, driver } => serve_run(alloc, scenario, driver, shelf, sink),
-        Command::Check { driver } => serve_check(alloc, driver, shelf, sink),
+        Command::Check { files } => serve_check(alloc, files, shelf, sink),
     }
 }
 
@@ -88,68 +91,82 @@ fn serve_run<S: Shelf, K: Sink>(
 /// Serves `check`.
 fn serve_check<S: Shelf, K: Sink>(
     alloc: Global,
-    driver: &str,
+    files: &[String],
     shelf: &mut S,
     sink: &mut K,
 ) -> Status
+    requires { all_differ (map string_bytes files.now) ≡ true }
+    requires { length files.now ≤ 4 }
     ensures possible { IsPossible result }
     ensures read_fault { result ≡ Status.ReadFault → Rose (S.faults shelf.old) (S.faults shelf.new) }
     ensures reads { result ≢ Status.ReadFault → S.faults shelf.new ≡ S.faults shelf.old }
-    ensures too_long { result ≡ Status.TooLong → IsTooLong (S.left shelf.old) (check_words driver.now) }
+    ensures too_long { result ≡ Status.TooLong → IsTooLong (S.left shelf.old) (check_words (map string_bytes files.now)) }
     ensures too_much { result ≡ Status.TooLong → RoseBeyond 1048576 (S.given shelf.old) (S.given shelf.new) }
     ensures write_fault { result ≡ Status.WriteFault → Rose (K.faults sink.old) (K.faults sink.new) }
     ensures writes { result ≢ Status.WriteFault → K.faults sink.new ≡ K.faults sink.old }
     ensures nothing { WritesNothing result → K.written sink.new ≡ K.written sink.old }
-    ensures output { Writes result → IsServed (S.left shelf.old) (K.written sink.old) (K.written sink.new) result (check_words driver.now) }
+    ensures output { Writes result → IsServed (S.left shelf.old) (K.written sink.old) (K.written sink.new) result (check_words (map string_bytes files.now)) }
 {
-    let text = match read_text(alloc, shelf, driver) {
-        Ok(text) => text,
-        Err(fault) => return fault_status(fault),
-    };
-    let status = check_text(alloc, text.as_slice(), sink);
-    status
-}
-
-/// Serves a check whose text is read.
-fn check_text<K: Sink>(alloc: Global, driver: &[u8], sink: &mut K) -> Status
-    ensures possible { IsAfterTexts result }
-    ensures write_fault { result ≡ Status.WriteFault → Rose (K.faults sink.old) (K.faults sink.new) }
-    ensures writes { result ≢ Status.WriteFault → K.faults sink.new ≡ K.faults sink.old }
-    ensures nothing { result ≡ Status.OutOfMemory → K.written sink.new ≡ K.written sink.old }
-    ensures output { Writes result → IsWritten (CheckAnswers driver.now) (K.written sink.old) (K.written sink.new) result }
-{
-    let Ok(read) = thin_text(alloc, driver) else {
-        return Status::OutOfMemory;
-    };
-    let Some(_statements) = read else {
-        return match write_all(sink, b"refused 1 0 later\n") {
-            Ok(()) => Status::Refused,
-            Err(_) => Status::WriteFault,
-        };
-    };
-    match write_all(sink, b"accepted 1\n") {
-        Ok(()) => Status::Done,
-        Err(_) => Status::WriteFault,
+    let mut texts = Vec::new(alloc);
+    if let Err(fault) = read_texts(alloc, shelf, files, &mut texts) {
+        return fault_status(fault);
     }
+    let status = check_texts(alloc, texts.as_slice(), sink);
+    status
 }
 
 /// Serves a run whose texts are read.
 fn serve_texts<K: Sink>(alloc: Global, scenario: &[u8], driver: &[u8], sink: &mut K) -> Status
+    requires { length driver.now ≤ 1048576 }
     ensures possible { IsAfterTexts result }
     ensures write_fault { result ≡ Status.WriteFault → Rose (K.faults sink.old) (K.faults sink.new) }
     ensures writes { result ≢ Status.WriteFault → K.faults sink.new ≡ K.faults sink.old }
     ensures nothing { result ≡ Status.OutOfMemory → K.written sink.new ≡ K.written sink.old }
     ensures output { Writes result → IsWritten (RunAnswers scenario.now driver.now) (K.written sink.old) (K.written sink.new) result }
 {
-    let Ok(read) = thin_text(alloc, driver) else {
+    let Ok(verdict) = verdict_of(alloc, driver) else {
         return Status::OutOfMemory;
     };
-    let Some(statements) = read else {
-        return match write_all(sink, b"refused 1 0 later\n") {
-            Ok(()) => Status::Refused,
-            Err(_) => Status::WriteFault,
-        };
-    };
+    match verdict {
+        Verdict::Refused(line, cause) => {
+            let refusal = Refusal {
+                driver: 1,
+                line,
+                cause,
+            };
+            match write_refusal(sink, refusal) {
+                Ok(()) => Status::Refused,
+                Err(_) => Status::WriteFault,
+            }
+        }
+        Verdict::NoItem => run_program(alloc, scenario, driver, Stage::NoInit, &[], sink),
+        Verdict::Init(statements) => run_program(
+            alloc,
+            scenario,
+            driver,
+            Stage::Absent,
+            statements.as_slice(),
+            sink,
+        ),
+    }
+}
+
+/// Serves a run whose driver is accepted.
+fn run_program<K: Sink>(
+    alloc: Global,
+    scenario: &[u8],
+    _driver: &[u8],
+    first: Stage,
+    statements: &[Statement],
+    sink: &mut K,
+) -> Status
+    requires { Starts _driver.now first statements.now }
+    ensures possible { IsAfterTexts result }
+    ensures write_fault { result ≡ Status.WriteFault → Rose (K.faults sink.old) (K.faults sink.new) }
+    ensures writes { result ≢ Status.WriteFault → K.faults sink.new ≡ K.faults sink.old }
+    ensures nothing { result ≡ Status.OutOfMemory → K.written sink.new ≡ K.written sink.old }
+    ensures output { Writes result → IsWritten (RunAnswers scenario.now _driver.now) (K.written sink.old) (K.written sink.new) result }
+{
     let Ok(read) = thin_scenario(alloc, scenario) else {
         return Status::OutOfMemory;
     };
@@ -159,7 +176,7 @@ fn serve_texts<K: Sink>(alloc: Global, scenario: &[u8], driver: &[u8], sink: &mu
             Err(_) => Status::WriteFault,
         };
     };
-    match thin_run(sink, statements.as_slice(), events.as_slice()) {
+    match thin_run(sink, first, statements, events.as_slice()) {
         Ok(()) => Status::Done,
         Err(_) => Status::WriteFault,
     }

@@ -1,42 +1,28 @@
--- Each print is one line, and the first return ends the lines.
-use Rattle.std.proofs.Common.{◌≡◌, ◌+◌, ◌≤◌, ◌<◌, ℕ, List, ◌∷◌, [], drop, length, arith, sym, ◌∙◌, ap, refl, get_or}
-use Rattle.sd_engine.specs.ThinRun.{prints, run_lines}
-use Rattle.sd_engine.proofs.Runs.{IsCut-at, on-error, rest-at, rest-past, told-print, cut-print, told-return, told-end}
+-- Each statement tells its line, and the end or the most steps end the lines.
+use Rattle.std.proofs.Common.{◌≡◌, ◌<◌, [], refl, ◌∙◌, arith}
+use Rattle.sd_engine.specs.ThinRun.{most_steps}
+use Rattle.sd_engine.proofs.Runs.{IsCut-at, on-error, rest-at, rest-past, told-stopped, at-stopped, cut-line, told-end}
 use Rattle.sd_engine.proofs.thin_run.run_init.Goals as goal
 
-pub returns-in_err-write_number-in-Print-clause-err : goal.returns-in_err-write_number-in-Print-clause-err
-returns-in_err-write_number-in-Print-clause-err g c =
-    on-error c.from_residual.result (cut-print _ _ _ _ _ c.in-Print.number c.loop-statement.invariant.told (rest-at _ _ _ _ c.loop-statement-test.true c.in-Print.is) c.in_err-write_number-in-Print.ensures.err)
+pub returns-then-steps-eq-MOST_STEPS-clause-ok : goal.returns-then-steps-eq-MOST_STEPS-clause-ok
+returns-then-steps-eq-MOST_STEPS-clause-ok g c = told-stopped _ _ _ _ [] c.if-steps-eq-MOST_STEPS.true c.loop-statement.invariant.told
 
-pub returns-in_err-write_number-in-Return-clause-err : goal.returns-in_err-write_number-in-Return-clause-err
-returns-in_err-write_number-in-Return-clause-err g c =
-    on-error c.from_residual-in_err-write_number-in-Return.result
-    (IsCut-at _ _ _ c.in_err-write_number-in-Return.ensures.err
-    (told-return _ _ _ _ c.in-Return.number c.loop-statement.invariant.told (rest-at _ _ _ _ c.loop-statement-test.true c.in-Return.is)))
+pub returns-then-steps-eq-MOST_STEPS-clause-next : goal.returns-then-steps-eq-MOST_STEPS-clause-next
+returns-then-steps-eq-MOST_STEPS-clause-next g c = at-stopped _ _ _ [] c.loop-statement.invariant.comes c.if-steps-eq-MOST_STEPS.true
 
-pub returns-in-Return-clause-ok : goal.returns-in-Return-clause-ok
-returns-in-Return-clause-ok g c =
-    c.in_ok-write_number-in-Return.ensures.ok
-    ∙ told-return _ _ _ _ c.in-Return.number c.loop-statement.invariant.told (rest-at _ _ _ _ c.loop-statement-test.true c.in-Return.is)
+pub returns-in_err-write_statement-clause-err : goal.returns-in_err-write_statement-clause-err
+returns-in_err-write_statement-clause-err g c =
+    let room : c.loop-statement.steps < most_steps = omega (arith, c.loop-statement.invariant.few, c.if-steps-eq-MOST_STEPS.false) in
+    on-error c.from_residual.result
+    (cut-line _ _ _ _ _ room _ c.loop-statement.invariant.told (rest-at _ _ _ _ c.loop-statement-test.true refl) _ c.in_err-write_statement.ensures.err)
 
-pub loop-statement-preserved : goal.loop-statement-preserved
-loop-statement-preserved g c =
-    let kept = c.loop-statement.invariant in
-    let rest = rest-at _ _ _ _ c.loop-statement-test.true c.in-Print.is in
-    let printed : length (prints (drop c.loop-statement.statement-index c.args.statements.now)) ≡ length (prints (drop (c.loop-statement.statement-index + 1) c.args.statements.now)) + 1 =
-    ap (λ (ss : _). length (prints ss)) rest ∙ omega arith in
-    record {
-      told = told-print _ _ _ _ _ c.in-Print.number kept.told rest c.in_ok-write_number-in-Print.ensures.ok;
-      calm = c.in_ok-write_number-in-Print.ensures.cause.kept ∙ kept.calm;
-      counted = omega arith;
-      few = omega arith;
-    }
-
-pub returns-in_err-write_number-clause-err : goal.returns-in_err-write_number-clause-err
-returns-in_err-write_number-clause-err g c =
-    on-error c.from_residual-in_err-write_number.result
-    (IsCut-at _ _ _ c.in_err-write_number.ensures.err (told-end _ _ _ [] c.loop-statement.invariant.told (rest-past _ _ c.loop-statement-test.false)))
+pub returns-in_err-write_statement-2-clause-err : goal.returns-in_err-write_statement-2-clause-err
+returns-in_err-write_statement-2-clause-err g c =
+    let room : c.loop-statement.steps < most_steps = omega (arith, c.loop-statement.invariant.few, c.if-steps-eq-MOST_STEPS-2.false) in
+    on-error c.from_residual-in_err-write_statement-2.result
+    (IsCut-at _ _ _ c.in_err-write_statement-2.ensures.err (told-end _ _ _ _ [] room c.loop-statement.invariant.told (rest-past _ _ c.loop-statement-test.false)))
 
 pub returns-clause-ok : goal.returns-clause-ok
 returns-clause-ok g c =
-    c.in_ok-write_number.ensures.ok ∙ told-end _ _ _ [] c.loop-statement.invariant.told (rest-past _ _ c.loop-statement-test.false)
+    let room : c.loop-statement.steps < most_steps = omega (arith, c.loop-statement.invariant.few, c.if-steps-eq-MOST_STEPS-2.false) in
+    c.in_ok-write_statement-2.ensures.ok ∙ told-end _ _ _ _ [] room c.loop-statement.invariant.told (rest-past _ _ c.loop-statement-test.false)

@@ -1,0 +1,7 @@
+pub mod Actions
+pub mod Beginnings
+pub mod Classes
+pub mod Constants
+pub mod Items
+pub mod Parts
+pub mod Sequences

@@ -1,5 +1,9 @@
+pub mod ItemWalks
 pub mod OneAction
 pub mod OneDeclaration
 pub mod OneItem
 pub mod OneStatement
 pub mod Only
+pub mod ShortUnits
+pub mod StatementWalks
+pub mod Walks

@@ -5,15 +5,19 @@ use Rattle.c_tree.specs.declared.items.Const.{Const}
 use Rattle.c_tree.specs.declared.items.Declaration.{Declaration}
 use Rattle.c_tree.specs.declared.items.Field.{Field}
 use Rattle.c_tree.specs.declared.items.Field.TheVariants as field
+use Rattle.c_tree.specs.declared.items.Head.{Head}
 use Rattle.c_tree.specs.declared.items.Local.{Local}
 use Rattle.c_tree.specs.declared.items.Param.{Param}
 use Rattle.c_tree.specs.declared.items.ResultBase.{ResultBase}
 use Rattle.c_tree.specs.declared.items.ResultBase.TheVariants as result
+use Rattle.c_tree.specs.declared.items.StructItem.{StructItem}
 use Rattle.c_tree.specs.declared.keywords.Keyword.TheVariants as keyword
 use Rattle.c_tree.specs.declared.signs.Sign.TheVariants as sign
 use Rattle.c_tree.specs.declared.types.Base.TheVariants as base
 use Rattle.c_tree.specs.declared.types.Number.{Number}
 use Rattle.c_tree.specs.declared.types.Star.{Star}
+use Rattle.c_tree.specs.declared.types.TypeName.{TypeName}
+use Rattle.c_tree.specs.declared.words.Suffix.{Suffix}
 use Rattle.c_tree.specs.declared.words.Token.{Token}
 use Rattle.c_tree.specs.declared.words.Word.{Word}
 use Rattle.c_tree.specs.declared.words.Word.TheVariants as word
@@ -26,6 +30,58 @@ use Rattle.c_expr.specs.Classes.{At, is_base}
 use Rattle.c_expr.proofs.Begins.{in_class}
 use Rattle.c_expr.proofs.Firsts.{base_first, type_first}
 use Rattle.c_decl.proofs.Only.{Only, type_only, each_only}
+
+-- ---- trees with equal parts are equal
+abbrev a_size : ℕ → Suffix → Option Number
+a_size n x = Some (record { value = n; suffix = x })
+
+size_same : (n n' : ℕ) (x x' : Suffix) → n ≡ n' → x ≡ x' → a_size n x ≡ a_size n' x'
+size_same n n' x x' e f = ap (λ m. a_size m x) e ∙ ap (λ y. a_size n' y) f
+
+abbrev a_declaration : TypeName → List ℕ → Option Number → Declaration
+a_declaration t n s = record { type_name = t; name = n; size = s }
+
+declaration_same : (t t' : TypeName) (n n' : List ℕ) (s s' : Option Number) → t ≡ t' → n ≡ n' → s ≡ s' → a_declaration t n s ≡ a_declaration t' n' s'
+declaration_same t t' n n' s s' e f g = ap (λ y. a_declaration y n s) e ∙ ap (λ y. a_declaration t' y s) f ∙ ap (λ y. a_declaration t' n' y) g
+
+abbrev an_arm : ℕ → TypeName → List ℕ → List ℕ → Const → Arm
+an_arm l t n m k = record { line = l; type_name = t; name = n; tag = m; value = k }
+
+arm_same : (l : ℕ) (t t' : TypeName) (n n' m m' : List ℕ) (k k' : Const) → t ≡ t' → n ≡ n' → m ≡ m' → k ≡ k' → an_arm l t n m k ≡ an_arm l t' n' m' k'
+arm_same l t t' n n' m m' k k' e f g h = ap (λ y. an_arm l y n m k) e ∙ ap (λ y. an_arm l t' y m k) f ∙ ap (λ y. an_arm l t' n' y k) g ∙ ap (λ y. an_arm l t' n' m' y) h
+
+union_same : (l : ℕ) (xs xs' : List Arm) (n n' : List ℕ) → xs ≡ xs' → n ≡ n' → field.Union l xs n ≡ field.Union l xs' n'
+union_same l xs xs' n n' e f = ap (λ y. field.Union l y n) e ∙ ap (λ y. field.Union l xs' y) f
+
+abbrev a_struct : ℕ → List ℕ → List Field → StructItem
+a_struct l n xs = record { line = l; name = n; fields = xs }
+
+struct_same : (l : ℕ) (n n' : List ℕ) (xs xs' : List Field) → n ≡ n' → xs ≡ xs' → a_struct l n xs ≡ a_struct l n' xs'
+struct_same l n n' xs xs' e f = ap (λ y. a_struct l y xs) e ∙ ap (λ y. a_struct l n' y) f
+
+abbrev a_param : ℕ → TypeName → List ℕ → Param
+a_param l t n = record { line = l; type_name = t; name = n }
+
+param_same : (l : ℕ) (t t' : TypeName) (n n' : List ℕ) → t ≡ t' → n ≡ n' → a_param l t n ≡ a_param l t' n'
+param_same l t t' n n' e f = ap (λ y. a_param l y n) e ∙ ap (λ y. a_param l t' y) f
+
+params_same : (p p' : Param) (ps ps' : List Param) → p ≡ p' → ps ≡ ps' → p ∷ ps ≡ p' ∷ ps'
+params_same p p' ps ps' e f = ap (λ y. y ∷ ps) e ∙ ap (λ y. p' ∷ y) f
+
+abbrev a_local : ℕ → TypeName → List ℕ → Local
+a_local l t n = record { line = l; type_name = t; name = n }
+
+local_same : (l : ℕ) (t t' : TypeName) (n n' : List ℕ) → t ≡ t' → n ≡ n' → a_local l t n ≡ a_local l t' n'
+local_same l t t' n n' e f = ap (λ y. a_local l y n) e ∙ ap (λ y. a_local l t' y) f
+
+abbrev a_head : ℕ → Bool → ResultBase → List Star → List ℕ → Bool → List Param → Head
+a_head l s r ss n b ps = record { line = l; is_static = s; result = r; stars = ss; name = n; written_void = b; params = ps }
+
+head_same : (l : ℕ) (s s' : Bool) (r r' : ResultBase) (ss ss' : List Star) (n n' : List ℕ) (b b' : Bool) (ps ps' : List Param) → s ≡ s' → r ≡ r' → ss ≡ ss' → n ≡ n' → b ≡ b' → ps ≡ ps'
+    → a_head l s r ss n b ps ≡ a_head l s' r' ss' n' b' ps'
+head_same l s s' r r' ss ss' n n' b b' ps ps' d e f g h i =
+    ap (λ z. a_head l z r ss n b ps) d ∙ ap (λ z. a_head l s' z ss n b ps) e ∙ ap (λ z. a_head l s' r' z n b ps) f ∙ ap (λ z. a_head l s' r' ss' z b ps) g ∙ ap (λ z. a_head l s' r' ss' n' z ps) h
+        ∙ ap (λ z. a_head l s' r' ss' n' b' z) i
 
 -- ---- constants
 pub const_only : (w : List Token) → Only ConstAt w
@@ -49,7 +105,7 @@ size_only w v v' u u' k k' s s' (array {u = o} {r = r} {n = n} {s = x} d e f) b 
     let here : o ≡ o' = cc in
     let digits : n ≡ n' = cc in
     let suffix : x ≡ x' = cc in
-    (ap (λ m. Some (record { value = m; suffix = x })) digits ∙ ap (λ y. Some (record { value = n'; suffix = y })) suffix, cc)
+    (size_same n n' x x' digits suffix, cc)
 
 pub value_only : (w v v' u u' : List Token) (s s' : Option Const) → ValueAt w v s → Ends v u → ValueAt w v' s' → Ends v' u' → (s ≡ s') × (v ≡ v')
 value_only w v v' u u' s s' no_value b no_value c = (refl, refl)
@@ -69,7 +125,7 @@ declaration_only w v v' u u' k k' x x' (declaration {u = o} {r = r} {t = t} {n =
     let name : n ≡ n' = cc in
     let there : r' ≡ r = cc in
     let size = size_only r v v' u u' k k' s s' f b (subst (λ q. SizeAt q v' s') there f') c g h in
-    (ap (λ y. record { type_name = y; name = n; size = s }) type.0 ∙ ap (λ y. record { type_name = t'; name = y; size = s }) name ∙ ap (λ y. record { type_name = t'; name = n'; size = y }) size.0, size.1)
+    (declaration_same t t' n n' s s' type.0 name size.0, size.1)
 
 -- ---- arms, fields and structs
 pub arm_only : (w : List Token) → Only ArmAt w
@@ -81,8 +137,7 @@ arm_only w v v' x x' (arm {a = a} {b = b} {f = f} {g = g} {h = h} {t = t} {n = n
     let there : f' ≡ f = cc in
     let constant = const_only f g g' k k' d7 (subst (λ q. ConstAt q g' k') there e7) in
     let behind : g ≡ g' = constant.1 in
-    (ap (λ y. record { line = line_at w; type_name = y; name = n; tag = m; value = k }) type.0 ∙ ap (λ y. record { line = line_at w; type_name = t'; name = y; tag = m; value = k }) name
-        ∙ ap (λ y. record { line = line_at w; type_name = t'; name = n'; tag = y; value = k }) tag ∙ ap (λ y. record { line = line_at w; type_name = t'; name = n'; tag = m'; value = y }) constant.0, cc)
+    (arm_same (line_at w) t t' n n' m m' k k' type.0 name tag constant.0, cc)
 
 declaration_first : (w v : List Token) (x : Declaration) → DeclarationAt w v x → At is_base w
 declaration_first w v x (declaration {u = u} {t = t} d e f) = type_first w u t d
@@ -107,7 +162,7 @@ field_only w v v' x x' (union {b = b} {d = d} {x = y} {xs = ys} {n = n} d1 d2 d3
         (λ u z r. outside is_base d _ (word.Sign sign.BraceClose) (arm_first d u z r) d5 refl) (λ u z r. outside is_base d' _ (word.Sign sign.BraceClose) (arm_first d' u z r) e5 refl) in
     let there : d ≡ d' = arms.1 in
     let name : n ≡ n' = cc in
-    (ap (λ z. field.Union (line_at w) z n) arms.0 ∙ ap (λ z. field.Union (line_at w) (y' ∷ ys') z) name, cc)
+    (union_same (line_at w) (y ∷ ys) (y' ∷ ys') n n' arms.0 name, cc)
 
 pub field_close : (w v u : List Token) (x : Field) → FieldAt w v x → Begins w (word.Sign sign.BraceClose) u → ⊥
 field_close w v u x (plain {u = r} {d = d} p c) b = outside is_base w u (word.Sign sign.BraceClose) (declaration_first w r d p) b refl
@@ -119,7 +174,7 @@ struct_only w v v' x x' (struct {c = c} {e = e} {n = n} {x = y} {xs = ys} d1 d2 
     let fields = each_only FieldAt field_only (each_more d4 d5) (subst (λ q. Each FieldAt q e' (y' ∷ ys')) here (each_more e4 e5)) (λ u z r. field_close e u _ z r d6) (λ u z r. field_close e' u _ z r e6) in
     let there : e ≡ e' = fields.1 in
     let name : n ≡ n' = cc in
-    (ap (λ z. record { line = line_at w; name = n; fields = z }) fields.0 ∙ ap (λ z. record { line = line_at w; name = z; fields = y' ∷ ys' }) name, cc)
+    (struct_same (line_at w) n n' (y ∷ ys) (y' ∷ ys') name fields.0, cc)
 
 -- ---- parameters and locals
 pub param_only : (w : List Token) → Only ParamAt w
@@ -127,7 +182,7 @@ param_only w v v' x x' (param {u = u} {t = t} {n = n} d e) (param {u = u'} {t = 
     let type = type_only w u u' v v' t t' n n' d e d' e' in
     let here : u ≡ u' = type.1 in
     let name : n ≡ n' = cc in
-    (ap (λ y. record { line = line_at w; type_name = y; name = n }) type.0 ∙ ap (λ y. record { line = line_at w; type_name = t'; name = y }) name, cc)
+    (param_same (line_at w) t t' n n' type.0 name, cc)
 
 more_param_only : (w : List Token) → Only MoreParamAt w
 more_param_only w v v' x x' (more_param {u = u} b d) (more_param {u = u'} b' d') = let here : u' ≡ u = cc in param_only u v v' x x' d (subst (λ q. ParamAt q v' x') here d')
@@ -151,14 +206,14 @@ params_only w v v' u u' s s' ps ps' (params {u = r} {p = p} d e) c (written_void
 params_only w v v' u u' s s' ps ps' (params {u = r} {p = p} {ps = qs} d e) c (params {u = r'} {p = p'} {ps = qs'} d' e') c' =
     let first = param_only w r r' p p' d d' in
     let rest = each_only MoreParamAt more_param_only e (subst (λ q. Each MoreParamAt q v' qs') (sym first.1) e') (λ o z m. more_close v o u z m c) (λ o z m. more_close v' o u' z m c') in
-    (refl, ap (λ z. z ∷ qs) first.0 ∙ ap (λ z. p' ∷ z) rest.0, rest.1)
+    (refl, params_same p p' qs qs' first.0 rest.0, rest.1)
 
 pub local_only : (w : List Token) → Only LocalAt w
 local_only w v v' x x' (local {u = u} {r = r} {t = t} {n = n} d e f) (local {u = u'} {r = r'} {t = t'} {n = n'} d' e' f') =
     let type = type_only w u u' r r' t t' n n' d e d' e' in
     let here : u ≡ u' = type.1 in
     let name : n ≡ n' = cc in
-    (ap (λ y. record { line = line_at w; type_name = y; name = n }) type.0 ∙ ap (λ y. record { line = line_at w; type_name = t'; name = y }) name, cc)
+    (local_same (line_at w) t t' n n' type.0 name, cc)
 
 pub local_first : (w v : List Token) (x : Local) → LocalAt w v x → At is_base w
 local_first w v x (local {u = u} {t = t} d e f) = type_first w u t d
@@ -209,9 +264,4 @@ head_only w v v' x x' (head {c = c} {d = d} {e = e} {f = f} {s = s} {b' = q} {r 
     let there : e' ≡ e = cc in
     let inside = params_only e f f' v v' q q' ps ps' d6 d7 (subst (λ z. ParamsAt z f' q' ps') there e6) e7 in
     let behind : f ≡ f' = inside.2 in
-    (ap (λ z. record { line = line_at w; is_static = z; result = r; stars = ss; name = n; written_void = q; params = ps }) same.0
-        ∙ ap (λ z. record { line = line_at w; is_static = s'; result = z; stars = ss; name = n; written_void = q; params = ps }) same.1
-        ∙ ap (λ z. record { line = line_at w; is_static = s'; result = r'; stars = z; name = n; written_void = q; params = ps }) same.2
-        ∙ ap (λ z. record { line = line_at w; is_static = s'; result = r'; stars = ss'; name = z; written_void = q; params = ps }) name
-        ∙ ap (λ z. record { line = line_at w; is_static = s'; result = r'; stars = ss'; name = n'; written_void = z; params = ps }) inside.0
-        ∙ ap (λ z. record { line = line_at w; is_static = s'; result = r'; stars = ss'; name = n'; written_void = q'; params = z }) inside.1, cc)
+    (head_same (line_at w) s s' r r' ss ss' n n' q q' ps ps' same.0 same.1 same.2 name inside.0 inside.1, cc)

@@ -10,12 +10,14 @@ mod constants;
 mod declarations;
 mod functions;
 mod items;
+mod laws;
 mod lines;
 mod params;
 mod reader;
 mod statements;
 mod structs;
 
+pub use laws::{one_item, one_statement, one_unit};
 pub use reader::read_unit;
 
 #[cfg(test)]

@@ -1,1 +1,2 @@
+pub mod GrammarExamples
 pub mod WordExamples

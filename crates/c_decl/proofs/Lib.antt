@@ -1,0 +1,17 @@
+pub mod Apart
+pub mod BeginningOf
+pub mod ItemWalks
+pub mod LongestAction
+pub mod LongestDeclaration
+pub mod LongestStruct
+pub mod Loops
+pub mod NamesAlone
+pub mod OneAction
+pub mod OneDeclaration
+pub mod OneItem
+pub mod OneStatement
+pub mod Only
+pub mod Sequences
+pub mod ShortUnits
+pub mod StatementWalks
+pub mod Walks

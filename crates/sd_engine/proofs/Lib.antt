@@ -2,3 +2,8 @@ pub mod Empty
 pub mod Fronts
 pub mod Runs
 pub mod Scenarios
+pub mod Verdicts
+pub mod Checks
+pub mod Together
+pub mod Commands
+pub mod Served

@@ -33,15 +33,15 @@ pub data RunAnswers (scenario driver : List ℕ) : List ℕ → Status → Type 
   run_done : {first : Stage} {list : List Statement} {events : List Event} → Starts driver first list → IsScenario scenario events
       → RunAnswers scenario driver (lines_from list first events) status.Done
 
--- the first text that is refused, counted from k, with its line and cause
-pub data FirstRefused : ℕ → List (List ℕ) → ℕ → ℕ → Cause → Type 0 where
-  refused_here : {k n : ℕ} {c : Cause} {t : List ℕ} {ts : List (List ℕ)} → IsRefused t n c → FirstRefused k (t ∷ ts) k n c
-  refused_later : {k j n : ℕ} {c : Cause} {t : List ℕ} {ts : List (List ℕ)} → IsAccepted t → FirstRefused (k + 1) ts j n c → FirstRefused k (t ∷ ts) j n c
-
 -- each text is accepted
-pub data AreAccepted : List (List ℕ) → Type 0 where
-  no_text : AreAccepted []
-  next_text : {t : List ℕ} {ts : List (List ℕ)} → IsAccepted t → AreAccepted ts → AreAccepted (t ∷ ts)
+abbrev pub AreAccepted : List (List ℕ) → Type 0
+AreAccepted [] = Unit {0}
+AreAccepted (t ∷ ts) = IsAccepted t × AreAccepted ts
+
+-- the first text that is refused is the j-th, counted from k, at line n for the cause c
+abbrev pub FirstRefused : ℕ → List (List ℕ) → ℕ → ℕ → Cause → Type 0
+FirstRefused k [] j n c = ⊥
+FirstRefused k (t ∷ ts) j n c = ((j ≡ k) × IsRefused t n c) ⊎ (IsAccepted t × FirstRefused (k + 1) ts j n c)
 
 -- no text is too long
 abbrev pub AreShort : List (List ℕ) → Type 0
@@ -55,7 +55,7 @@ accepted_lines k (t ∷ ts) = number_line (codes "accepted ") (pos k) ++ accepte
 
 -- what a check of these texts writes, and its status where it is written whole
 pub data CheckAnswers (texts : List (List ℕ)) : List ℕ → Status → Type 0 where
-  check_refused : {k n : ℕ} {c : Cause} → FirstRefused 1 texts k n c → CheckAnswers texts (refusal_line k n c) status.Refused
+  check_refused : (k n : ℕ) (c : Cause) → FirstRefused 1 texts k n c → CheckAnswers texts (refusal_line k n c) status.Refused
   accepted : AreAccepted texts → CheckAnswers texts (accepted_lines 1 texts) status.Done
 
 -- what was written, by the status: all of the answer, or a front part of one where a write failed
@@ -69,9 +69,11 @@ pub record IsText (left : Option (List ℕ)) (text : List ℕ) : Type 0 where
   pub short : length text ≤ most_bytes
 
 -- texts that were read, one for each name
-pub data AreTexts (left : List ℕ → Option (List ℕ)) : List (List ℕ) → List (List ℕ) → Type 0 where
-  no_file : AreTexts left [] []
-  next_file : {name text : List ℕ} {names texts : List (List ℕ)} → IsText (left name) text → AreTexts left names texts → AreTexts left (name ∷ names) (text ∷ texts)
+abbrev pub AreTexts : (left : List ℕ → Option (List ℕ)) → List (List ℕ) → List (List ℕ) → Type 0
+AreTexts left [] [] = Unit {0}
+AreTexts left [] (text ∷ texts) = ⊥
+AreTexts left (name ∷ names) [] = ⊥
+AreTexts left (name ∷ names) (text ∷ texts) = IsText (left name) text × AreTexts left names texts
 
 -- the texts are those that were there before and, behind them, those of the names
 pub record AreTextsBehind (left : List ℕ → Option (List ℕ)) (names before now : List (List ℕ)) : Type 0 where

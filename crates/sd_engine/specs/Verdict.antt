@@ -1,5 +1,5 @@
 -- What becomes of a driver text under a run, which serves the texts without an item and those of one thin function.
-use Rattle.std.specs.Prelude.{◌≡◌, ℕ, ◌+◌, List, [], ◌∷◌, ◌++◌, ℤ, pos, codes}
+use Rattle.std.specs.Prelude.{◌≡◌, ℕ, ◌⊎◌, List, [], ◌∷◌, ◌++◌, codes}
 use Rattle.std.specs.Fmt.{decimal}
 use Rattle.c_tree.specs.declared.items.Unit.{Unit as TextUnit}
 use Rattle.c_tree.specs.Bytes.{Text}
@@ -9,6 +9,7 @@ use Rattle.driver_front.specs.declared.causes.Cause.TheVariants as cause
 use Rattle.driver_front.specs.Verdict.{IsUnread, spelling_of}
 use Rattle.sd_engine.specs.declared.drivers.Verdict.{Verdict}
 use Rattle.sd_engine.specs.declared.drivers.Verdict.TheVariants as verdict
+use Rattle.sd_engine.specs.declared.thin_program.Statement.{Statement}
 use Rattle.sd_engine.specs.ThinProgram.{Served, no_item, init, later, program_of}
 
 -- the text is read as a unit of which a run makes this
@@ -28,10 +29,15 @@ IsVerdict t (verdict.Refused n c) = IsRefused t n c
 IsVerdict t verdict.NoItem = IsServedAs t no_item
 IsVerdict t (verdict.Init statements) = IsServedAs t (init statements.items)
 
--- the text is accepted
-pub data IsAccepted (t : Text) : Type 0 where
-  without_item : IsServedAs t no_item → IsAccepted t
-  with_init : {statements : List _} → IsServedAs t (init statements) → IsAccepted t
+-- a verdict of the code is right for the items of a text
+abbrev pub IsVerdictOf : TextUnit → Verdict → Type 0
+IsVerdictOf u (verdict.Refused n c) = (c ≡ cause.Later) × (program_of u ≡ later n)
+IsVerdictOf u verdict.NoItem = program_of u ≡ no_item
+IsVerdictOf u (verdict.Init statements) = program_of u ≡ init statements.items
+
+-- the text is accepted: it is without an item, or one function `init`
+abbrev pub IsAccepted : Text → Type 0
+IsAccepted t = IsServedAs t no_item ⊎ ((statements : List Statement) × IsServedAs t (init statements))
 
 -- the line that tells of a refusal: the driver's number, the line and the cause
 abbrev pub refusal_line : ℕ → ℕ → Cause → List ℕ

@@ -1,13 +1,13 @@
 //! `check`: which drivers' texts are accepted.
-ghost use Rattle.std.specs.Prelude.{◌≡◌, ◌≢◌, ◌<◌, ◌+◌, ◌^◌, IfOk, MatchOption, OnOk, OnErr, length, map};
+ghost use Rattle.std.specs.Prelude.{◌≡◌, ◌≢◌, ◌<◌, ◌≤◌, ◌+◌, ◌^◌, IfOk, MatchOption, OnOk, OnErr, length, map};
 ghost use Rattle.sd_outside.specs.Counts.{HasCause, Rose};
 ghost use Rattle.sd_outside.specs.Sink.{IsCut, more};
 ghost use Rattle.sd_engine.specs.Serve.{AreAccepted, AreShort, CheckAnswers, FirstRefused, IsAfterTexts, IsWritten, Writes, accepted_lines};
-ghost use Rattle.sd_engine.specs.Verdict.{refusal_line as line_of_refusal};
+ghost use Rattle.sd_engine.specs.Verdict.{IsAccepted, IsRefused, refusal_line as line_of_refusal};
 
 use crate::drivers::{Verdict, verdict_of};
 use crate::status::Status;
-use crate::thin_run::write_number;
+use crate::thin_run::write_count;
 use driver_front::Cause;
 use sd_base::Line;
 use sd_outside::{Sink, WriteFault, write_all};
@@ -53,8 +53,8 @@ fn first_refused(
     texts: &[Vec<u8>],
     driver: usize,
 ) -> Result<Option<Refusal>, AllocError>
-    requires { AreShort (map (λ text. text.items) texts.now) }
-    requires { driver + length texts.now < 2 ^ 64 }
+    requires short { AreShort (map (λ text. text.items) texts.now) }
+    requires few { driver + length texts.now < 2 ^ 64 }
     ensures { IfOk result (λ found. MatchOption found
         (AreAccepted (map (λ text. text.items) texts.now))
         (λ refusal. FirstRefused driver (map (λ text. text.items) texts.now) refusal.driver refusal.line refusal.cause)) }
@@ -62,13 +62,27 @@ fn first_refused(
     let [first, rest @ ..] = texts else {
         return Ok(None);
     };
-    match verdict_of(alloc, first.as_slice())? {
+    let found = refusal_of(alloc, first.as_slice(), driver)?;
+    if found.is_some() {
+        return Ok(found);
+    }
+    first_refused(alloc, rest, driver + 1)
+}
+
+/// The refusal of a text, where it is refused.
+fn refusal_of(alloc: Global, text: &[u8], driver: usize) -> Result<Option<Refusal>, AllocError>
+    requires { length text.now ≤ 1048576 }
+    ensures { IfOk result (λ found. MatchOption found
+        (IsAccepted text.now)
+        (λ refusal. (refusal.driver ≡ driver) × IsRefused text.now refusal.line refusal.cause)) }
+{
+    match verdict_of(alloc, text)? {
         Verdict::Refused(line, cause) => Ok(Some(Refusal {
             driver,
             line,
             cause,
         })),
-        Verdict::NoItem | Verdict::Init(_) => first_refused(alloc, rest, driver + 1),
+        Verdict::NoItem | Verdict::Init(_) => Ok(None),
     }
 }
 
@@ -86,7 +100,7 @@ fn write_accepted<K: Sink>(
     let [_first, rest @ ..] = texts else {
         return Ok(());
     };
-    write_number(sink, b"accepted ", driver as i128)?;
+    write_count(sink, b"accepted ", driver)?;
     write_accepted(sink, rest, driver + 1)
 }
 

@@ -15,5 +15,3 @@ mod top_call;
 pub use status::Status;
 pub use top_call::serve;
 
-#[cfg(test)]
-mod tests;

@@ -28,6 +28,8 @@ pub fn read_texts<S: Shelf>(
         return Ok(());
     };
     let text = read_text(alloc, shelf, first.as_str())?;
-    texts.push(text)?;
+    if texts.push(text).is_err() {
+        return Err(TextFault::Memory);
+    }
     read_texts(alloc, shelf, rest, texts)
 }

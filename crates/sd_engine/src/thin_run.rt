@@ -1,5 +1,5 @@
 //! A thin run: one driver, one task, and the lines as they come.
-ghost use Rattle.std.specs.Prelude.{◌≡◌, ◌≤◌, ◌++◌, ◌∷◌, [], IfOk, OnOk, OnErr, length};
+ghost use Rattle.std.specs.Prelude.{◌≡◌, ◌≤◌, ◌++◌, ◌∷◌, [], IfOk, OnOk, OnErr, length, pos};
 ghost use Rattle.std.specs.Fmt.{signed_decimal};
 ghost use Rattle.sd_outside.specs.Counts.{HasCause};
 ghost use Rattle.sd_outside.specs.Sink.{IsCut, more};
@@ -164,14 +164,14 @@ fn write_last<K: Sink>(sink: &mut K, stage: Stage) -> Result<(), WriteFault>
     ensures cause { HasCause (K.faults sink.old) (K.faults sink.new) result }
 {
     match stage {
-        Stage::NoInit | Stage::Absent | Stage::Ready => write_number(sink, b"end ", 0),
-        Stage::Over(steps) => write_number(sink, b"end ", steps as i128),
-        Stage::Stopped => write_number(sink, b"bound ", MOST_STEPS as i128),
+        Stage::NoInit | Stage::Absent | Stage::Ready => write_count(sink, b"end ", 0),
+        Stage::Over(steps) => write_count(sink, b"end ", steps),
+        Stage::Stopped => write_count(sink, b"bound ", MOST_STEPS),
     }
 }
 
 /// Writes a line that ends in a number.
-pub fn write_number<K: Sink>(sink: &mut K, front: &[u8], number: i128) -> Result<(), WriteFault>
+fn write_number<K: Sink>(sink: &mut K, front: &[u8], number: i128) -> Result<(), WriteFault>
     requires { length front.now ≤ 100 }
     ensures ok { OnOk result (K.written sink.new ≡ more (K.written sink.old) (line_of_number front.now number)) }
     ensures err { OnErr result (IsCut (K.written sink.new) (more (K.written sink.old) (line_of_number front.now number))) }
@@ -180,6 +180,16 @@ pub fn write_number<K: Sink>(sink: &mut K, front: &[u8], number: i128) -> Result
     let line = number_line(front, number);
     let written = write_all(sink, line.bytes());
     written
+}
+
+/// Writes a line that ends in a count.
+pub fn write_count<K: Sink>(sink: &mut K, front: &[u8], count: usize) -> Result<(), WriteFault>
+    requires { length front.now ≤ 100 }
+    ensures ok { OnOk result (K.written sink.new ≡ more (K.written sink.old) (line_of_number front.now (pos count))) }
+    ensures err { OnErr result (IsCut (K.written sink.new) (more (K.written sink.old) (line_of_number front.now (pos count)))) }
+    ensures cause { HasCause (K.faults sink.old) (K.faults sink.new) result }
+{
+    write_number(sink, front, count as i128)
 }
 
 /// A line that ends in a number, with its line feed.

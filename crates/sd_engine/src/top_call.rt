@@ -95,8 +95,8 @@ fn serve_check<S: Shelf, K: Sink>(
     shelf: &mut S,
     sink: &mut K,
 ) -> Status
-    requires { all_differ (map string_bytes files.now) ≡ true }
-    requires { length files.now ≤ 4 }
+    requires differ { all_differ (map string_bytes files.now) ≡ true }
+    requires few { length files.now ≤ 4 }
     ensures possible { IsPossible result }
     ensures read_fault { result ≡ Status.ReadFault → Rose (S.faults shelf.old) (S.faults shelf.new) }
     ensures reads { result ≢ Status.ReadFault → S.faults shelf.new ≡ S.faults shelf.old }

@@ -21,7 +21,7 @@ use Rattle.c_expr.proofs.Begins.{in_class}
 use Rattle.c_expr.proofs.Classes.{at_weaker, at_apart}
 
 -- ---- type names
-base_first : (w v : List Token) (b : Base) → BaseAt w v b → At is_base w
+pub base_first : (w v : List Token) (b : Base) → BaseAt w v b → At is_base w
 base_first w v b (char c) = rw c refl
 base_first w v b (signed_char c d) = rw c refl
 base_first w v b (unsigned_char c d) = rw c refl
@@ -34,7 +34,7 @@ base_first w v b (unsigned_int c d) = rw c refl
 base_first w v b (unsigned_long c d) = rw c refl
 base_first w v b (structure c d) = rw c refl
 
-type_first : (w v : List Token) (t : TypeName) → TypeNameAt w v t → At is_base w
+pub type_first : (w v : List Token) (t : TypeName) → TypeNameAt w v t → At is_base w
 type_first w v t (type_name d s) = base_first w _ _ d
 
 pub parens_open_type : (w v : List Token) (t : TypeName) → InParens w v t → opens_type w ≡ true

@@ -22,7 +22,7 @@ pub data Follows : List Token → List Token → Type 0 where
   done : {a : List Token} → Follows a []
   next : {a b : List Token} {k : Token} → passed a k.word ≡ None → IsWritten k.word → Follows (a ++ k ∷ []) b → Follows a (k ∷ b)
 
-one_more : (a b : List Token) (k : Token) → Follows a b → passed (a ++ b) k.word ≡ None → IsWritten k.word → Follows a (b ++ k ∷ [])
+pub one_more : (a b : List Token) (k : Token) → Follows a b → passed (a ++ b) k.word ≡ None → IsWritten k.word → Follows a (b ++ k ∷ [])
 one_more a b k done p w = next (subst (λ z. passed z k.word ≡ None) (append-nil a) p) w done
 one_more a b k (next {b = r} {k = j} q v d) p w = next q v (one_more (a ++ j ∷ []) r k d (subst (λ z. passed z k.word ≡ None) (sym (append_assoc a (j ∷ []) r)) p) w)
 
@@ -51,10 +51,10 @@ second_fails false false x y o e = refl
 abbrev later : List Token → Word → Option LimitKind
 later a k = cond (is_sign is_unary k && nat_le 16 (unary_of a)) (Some limit.Unary) (cond (nat_lt 63 (name_length k)) (Some limit.Name) None)
 
-below : (m n : ℕ) → nat_le m n ≡ false → n < m
+pub below : (m n : ℕ) → nat_le m n ≡ false → n < m
 below m n e = grind (arith, nat_tests)
 
-run_room : (a : List Token) (k : Word) → passed a k ≡ None → run_of a < 1000
+pub run_room : (a : List Token) (k : Word) → passed a k ≡ None → run_of a < 1000
 run_room a k e = below 1000 (run_of a)
     (second_fails (nat_le 200000 (length a)) (nat_le 1000 (run_of a)) limit.Words limit.Run (cond (is_sign is_opening k && nat_le 64 (nesting_of a)) (Some limit.Nesting) (later a k)) e)
 
@@ -69,15 +69,15 @@ third_fails false true d x y z o e = cc
 third_fails false false true x y z o e = cc
 third_fails false false false x y z o e = refl
 
-nesting_room : (a : List Token) (k : Word) → passed a k ≡ None → is_sign is_opening k ≡ true → nesting_of a < 64
+pub nesting_room : (a : List Token) (k : Word) → passed a k ≡ None → is_sign is_opening k ≡ true → nesting_of a < 64
 nesting_room a k e h = opening_room (is_sign is_opening k) (nesting_of a)
     (third_fails (nat_le 200000 (length a)) (nat_le 1000 (run_of a)) (is_sign is_opening k && nat_le 64 (nesting_of a)) limit.Words limit.Run limit.Nesting (later a k) e) h
 
 -- ---- counts behind one more word
-run_more : (a : List Token) (k : Token) → run_of (a ++ k ∷ []) ≡ run_after (run_of a) k.word
+pub run_more : (a : List Token) (k : Token) → run_of (a ++ k ∷ []) ≡ run_after (run_of a) k.word
 run_more a k = fold-append (λ n t. run_after n t.word) 0 a (k ∷ [])
 
-nesting_more : (a : List Token) (k : Token) → nesting_of (a ++ k ∷ []) ≡ nesting_after (nesting_of a) k.word
+pub nesting_more : (a : List Token) (k : Token) → nesting_of (a ++ k ∷ []) ≡ nesting_after (nesting_of a) k.word
 nesting_more a k = fold-append (λ n t. nesting_after n t.word) 0 a (k ∷ [])
 
 -- ---- how many words
@@ -90,7 +90,7 @@ run_length a (k ∷ s) r (next e w d) q =
     omega arith
 
 -- ---- how deep brackets nest
-nesting_mono : (o c : Bool) (n m : ℕ) → n ≤ m → cond o (n + 1) (cond c (n - 1) n) ≤ cond o (m + 1) (cond c (m - 1) m)
+pub nesting_mono : (o c : Bool) (n m : ℕ) → n ≤ m → cond o (n + 1) (cond c (n - 1) n) ≤ cond o (m + 1) (cond c (m - 1) m)
 nesting_mono true c n m h = omega arith
 nesting_mono false true n m h = omega arith
 nesting_mono false false n m h = h
@@ -100,10 +100,10 @@ nesting_bound true c n h room = let more = room refl in omega arith
 nesting_bound false true n h room = omega arith
 nesting_bound false false n h room = h
 
-nesting_fits : (a : List Token) (k : Token) → passed a k.word ≡ None → nesting_of a ≤ 64 → nesting_of (a ++ k ∷ []) ≤ 64
+pub nesting_fits : (a : List Token) (k : Token) → passed a k.word ≡ None → nesting_of a ≤ 64 → nesting_of (a ++ k ∷ []) ≤ 64
 nesting_fits a k e h = subst (λ n. n ≤ 64) (sym (nesting_more a k)) (nesting_bound (is_sign is_opening k.word) (is_sign is_closing k.word) (nesting_of a) h (nesting_room a k.word e))
 
-open_fits : (before after : List Word) (a s r : List Token) (n : ℕ) → Follows a (s ++ r) → words_of s ≡ before ++ after → n ≤ nesting_of a → nesting_of a ≤ 64
+pub open_fits : (before after : List Word) (a s r : List Token) (n : ℕ) → Follows a (s ++ r) → words_of s ≡ before ++ after → n ≤ nesting_of a → nesting_of a ≤ 64
     → fold (λ m k. nesting_after m k) n before ≤ 64
 open_fits [] after a s r n d e h i = omega arith
 open_fits (k ∷ before) after a [] r n d e h i = cc
@@ -116,7 +116,7 @@ open_fits (k ∷ before) after a (t ∷ s) r n (next p w d) e h i =
     (open_fits before after (a ++ t ∷ []) s r (nesting_after n t.word) d rest more (nesting_fits a t p i))
 
 -- ---- which words
-all_written : (a s r : List Token) → Follows a (s ++ r) → All IsWritten (words_of s)
+pub all_written : (a s r : List Token) → Follows a (s ++ r) → All IsWritten (words_of s)
 all_written a [] r d = All-nil IsWritten
 all_written a (k ∷ s) r (next p w d) = All-cons IsWritten k.word (words_of s) w (all_written (a ++ k ∷ []) s r d)
 

@@ -38,7 +38,7 @@ abbrev pub Quiet : List Word → Type 0
 Quiet [] = Unit {0}
 Quiet (k ∷ s) = (is_sign ends_run k ≡ false) × Quiet s
 
-quiet_append : (s r : List Word) → Quiet s → Quiet r → Quiet (s ++ r)
+pub quiet_append : (s r : List Word) → Quiet s → Quiet r → Quiet (s ++ r)
 quiet_append [] r p q = q
 quiet_append (k ∷ s) r p q = (p.0, quiet_append s r p.1 q)
 
@@ -51,17 +51,17 @@ one : (w v : List Token) (k : Word) → Begins w k v → is_sign ends_run k ≡ 
 one [] v k b q = cc
 one (t ∷ w) v k b q = let is : t.word ≡ k = cc in let rest : w ≡ v = cc in record { same = ap (λ j. j ∷ words_of w) is ∙ ap (λ z. k ∷ words_of z) rest; quiet = (q, tt) }
 
-word_there : {w v : List Token} {k : Word} → Begins w k v → is_sign ends_run k ≡ false → Written w v (k ∷ [])
+pub word_there : {w v : List Token} {k : Word} → Begins w k v → is_sign ends_run k ≡ false → Written w v (k ∷ [])
 word_there {w} {v} {k} b q = one w v k b q
 
-both : {w u v : List Token} {s r : List Word} → Written w u s → Written u v r → Written w v (s ++ r)
+pub both : {w u v : List Token} {s r : List Word} → Written w u s → Written u v r → Written w v (s ++ r)
 both {v = v} {s = s} {r = r} p q = record { same = p.same ∙ ap (λ z. s ++ z) q.same ∙ sym (append_assoc s r (words_of v)); quiet = quiet_append s r p.quiet q.quiet }
 
-written_as : {w v : List Token} {s r : List Word} → s ≡ r → Written w v s → Written w v r
+pub written_as : {w v : List Token} {s r : List Word} → s ≡ r → Written w v s → Written w v r
 written_as {w} {v} e p = subst (Written w v) e p
 
 -- ---- type names
-base_written : {w v : List Token} {x : Base} → BaseAt w v x → Written w v (base_words x)
+pub base_written : {w v : List Token} {x : Base} → BaseAt w v x → Written w v (base_words x)
 base_written (char b) = word_there b refl
 base_written (signed_char b c) = both (word_there b refl) (word_there c refl)
 base_written (unsigned_char b c) = both (word_there b refl) (word_there c refl)
@@ -87,7 +87,7 @@ first_written : {w v : List Token} {x : SignedTerm} → FirstTermAt w v x → Wr
 first_written (first d) = term_written d
 first_written (negative_first b d) = both (word_there b refl) (term_written d)
 
-nothing_written : {w : List Token} → Written w w []
+pub nothing_written : {w : List Token} → Written w w []
 nothing_written = record { same = refl; quiet = tt }
 
 terms_written : {w v : List Token} {ts : List SignedTerm} → Each SignedAt w v ts → Written w v (terms_words ts)
@@ -102,7 +102,7 @@ addr_written (pointer b) = word_there b refl
 addr_written (offset b d) = both (word_there b refl) (signed_written d)
 
 module _ {X : Type 0} (R : List Token → List Token → X → Type 0) (f : X → List Word) (written : (w v : List Token) (x : X) → R w v x → Written w v (f x)) where
-  enclosed_written : {w v : List Token} {x : X} → Enclosed R w v x → Written w v (in_parentheses (f x))
+  pub enclosed_written : {w v : List Token} {x : X} → Enclosed R w v x → Written w v (in_parentheses (f x))
   enclosed_written (enclosed {u = u} {r = r} {x = x} b d c) = both (word_there b refl) (both (written u r x d) (word_there c refl))
 
 ends_written : (w v : List Token) (x : Addr × Addr) → EndsAt w v x → Written w v (addr_words x.0 ++ (a_sign sign.Comma ++ addr_words x.1))
@@ -115,15 +115,15 @@ annotation_written (nullterm b) = word_there b refl
 annotation_written (count b d) = both (word_there b refl) (enclosed_written SumAt (λ n. sum_words n.terms) (λ w v x p. sum_written p) d)
 annotation_written (bound b d) = both (word_there b refl) (enclosed_written {X = Addr × Addr} EndsAt (λ a. addr_words a.0 ++ (a_sign sign.Comma ++ addr_words a.1)) ends_written d)
 
-stars_written : {w v : List Token} {ss : List Star} → Each StarAt w v ss → Written w v (stars_words ss)
+pub stars_written : {w v : List Token} {ss : List Star} → Each StarAt w v ss → Written w v (stars_words ss)
 stars_written each_end = nothing_written
 stars_written (each_more (types.plain b) e) = both (word_there b refl) (stars_written e)
 stars_written (each_more (annotated b d) e) = both (both (word_there b refl) (annotation_written d)) (stars_written e)
 
-type_written : {w v : List Token} {x : TypeName} → TypeNameAt w v x → Written w v (type_words x)
+pub type_written : {w v : List Token} {x : TypeName} → TypeNameAt w v x → Written w v (type_words x)
 type_written (type_name d e) = both (base_written d) (stars_written e)
 
-parens_written : {w v : List Token} {x : TypeName} → InParens w v x → Written w v (in_parentheses (type_words x))
+pub parens_written : {w v : List Token} {x : TypeName} → InParens w v x → Written w v (in_parentheses (type_words x))
 parens_written d = enclosed_written TypeNameAt (λ t. type_words t) (λ w v x p. type_written p) d
 
 -- ---- operators
@@ -247,7 +247,7 @@ mutual
   more_written (row_more {o = o} {w = w} {u = u} {v = v} {x = x} {y = y} {z = z} b e d m) =
       behind_more w u v x (expr.Binary o x y) z (a_sign (binary_sign o) ++ spelled y) (binary_spelled o x y) (both (binary_written b) (row_written d)) (more_written m)
 
-  unary_expression_written : {w v : List Token} {x : Expr} → UnaryExpr w v x → Written w v (spelled x)
+  pub unary_expression_written : {w v : List Token} {x : Expr} → UnaryExpr w v x → Written w v (spelled x)
   unary_expression_written (prefixed {o = o} {x = x} b d) = written_as (sym (unary_spelled o x)) (both (unary_written b) (unary_expression_written d))
   unary_expression_written (cast {t = t} {x = x} i d) = written_as (sym (cast_spelled t x)) (both (parens_written i) (unary_expression_written d))
   unary_expression_written (size_of {t = t} b i) = written_as (sym (sizeof_spelled t)) (both (word_there b refl) (parens_written i))
@@ -271,7 +271,7 @@ mutual
   primary_written (grouped {x = x} b d) = written_as (sym (grouped_spelled x)) (both (word_there b refl) (closed_written d refl))
   primary_written (null_constant n) = null_written n
 
-  closed_written : {s : Sign} {w v : List Token} {x : Expr} → Closed s w v x → is_sign ends_run (word.Sign s) ≡ false → Written w v (spelled x ++ a_sign s)
+  pub closed_written : {s : Sign} {w v : List Token} {x : Expr} → Closed s w v x → is_sign ends_run (word.Sign s) ≡ false → Written w v (spelled x ++ a_sign s)
   closed_written (closed d b) q = both (row_written d) (word_there b q)
 
 -- the words of an expression are those of its tree

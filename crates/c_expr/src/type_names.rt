@@ -1,7 +1,7 @@
 //! Annotations, stars and type names.
-ghost use Rattle.std.specs.Prelude.{◌≡◌, ◌<◌, ◌≤◌, length, IfOk, IfSome};
+ghost use Rattle.std.specs.Prelude.{◌≡◌, ◌<◌, ◌≤◌, length, Some, IfOk, IfSome};
 ghost use Rattle.std.specs.Option.{option_map};
-ghost use Rattle.c_tree.specs.Reading.{Best, Never, Enclosed};
+ghost use Rattle.c_tree.specs.Reading.{Best, Never, Each, Enclosed};
 ghost use Rattle.c_tree.specs.TypeGrammar.{SumAt, EndsAt, AnnotationAt, StarAt, TypeNameAt, InParens};
 ghost use Rattle.c_expr.specs.Classes.{At, is_annotation, is_in_types, is_in_sums};
 
@@ -113,6 +113,20 @@ fn star_at(alloc: Global, words: &[Token]) -> Result<Option<(Star, &[Token])>, A
     Ok(Some((annotated, rest)))
 }
 
+/// The stars that the words begin with, as many as there are, each with its annotation.
+pub fn stars_at(alloc: Global, words: &[Token]) -> Result<(Items<Star>, &[Token]), AllocError>
+    ensures best { IfOk result (λ a. Best (λ v x. Each StarAt words.now v x) (At is_in_types) (Some (a.0, a.1.now))) }
+    ensures shorter { IfOk result (λ a. length a.1.now ≤ length words.now) }
+{
+    let mut stars = Items::new(alloc);
+    let mut rest = words;
+    while let Some((star, after)) = star_at(alloc, rest)? {
+        stars.push(star)?;
+        rest = after;
+    }
+    Ok((stars, rest))
+}
+
 /// The longest type name that the words begin with, and the words after it.
 pub fn type_name_at(
     alloc: Global,
@@ -124,12 +138,7 @@ pub fn type_name_at(
     let Some((base, after_base)) = base_at(words) else {
         return Ok(None);
     };
-    let mut stars = Items::new(alloc);
-    let mut rest = after_base;
-    while let Some((star, after)) = star_at(alloc, rest)? {
-        stars.push(star)?;
-        rest = after;
-    }
+    let (stars, rest) = stars_at(alloc, after_base)?;
     Ok(Some((TypeName { base, stars }, rest)))
 }
 

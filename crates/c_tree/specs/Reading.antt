@@ -2,7 +2,7 @@
 -- written and in which the readers of phrases answer.
 --
 -- A phrase of meaning x is a relation `R w v x`: the words w begin with the phrase, and v is what stands after it.
-use Rattle.std.specs.Prelude.{◌≡◌, ℕ, ◌+◌, ◌<◌, ◌⊎◌, List, [], ◌∷◌, length, Option, None, Some, IfSome}
+use Rattle.std.specs.Prelude.{◌≡◌, ℕ, ◌<◌, ◌⊎◌, List, [], ◌∷◌, length, Option, None, Some, IfSome}
 use Rattle.c_tree.specs.declared.signs.Sign.TheVariants as sign
 use Rattle.c_tree.specs.declared.words.Token.{Token}
 use Rattle.c_tree.specs.declared.words.Word.{Word}

@@ -1,5 +1,5 @@
 -- The words of a type name and of an expression, in order. A tree determines its words.
-use Rattle.std.specs.Prelude.{ℕ, Bool, List, [], ◌∷◌, ◌++◌, cond, Option, None, Some}
+use Rattle.std.specs.Prelude.{ℕ, List, [], ◌∷◌, ◌++◌, cond, Option, None, Some}
 use Rattle.c_tree.specs.declared.expressions.Binary.{Binary}
 use Rattle.c_tree.specs.declared.expressions.Binary.TheVariants as binary
 use Rattle.c_tree.specs.declared.expressions.Expr.{Expr}
@@ -19,7 +19,6 @@ use Rattle.c_tree.specs.declared.types.Base.TheVariants as base
 use Rattle.c_tree.specs.declared.types.Number.{Number}
 use Rattle.c_tree.specs.declared.types.SignedTerm.{SignedTerm}
 use Rattle.c_tree.specs.declared.types.Star.{Star}
-use Rattle.c_tree.specs.declared.types.Sum.{Sum}
 use Rattle.c_tree.specs.declared.types.Term.{Term}
 use Rattle.c_tree.specs.declared.types.Term.TheVariants as term
 use Rattle.c_tree.specs.declared.types.TypeName.{TypeName}

@@ -1,6 +1,6 @@
 -- The grammar of type names, one constructor for each alternative. Each relation says that the words w begin with a
 -- phrase of that meaning, and that v is what stands after it.
-use Rattle.std.specs.Prelude.{ℕ, List, [], ◌∷◌, None, Some, true, false}
+use Rattle.std.specs.Prelude.{ℕ, List, ◌∷◌, None, Some, true, false}
 use Rattle.c_tree.specs.declared.keywords.Keyword.TheVariants as keyword
 use Rattle.c_tree.specs.declared.signs.Sign.TheVariants as sign
 use Rattle.c_tree.specs.declared.types.Addr.{Addr}

@@ -4,12 +4,14 @@ ghost use Rattle.std.specs.List.{list_any};
 ghost use Rattle.sd_base.specs.declared.history.Update.TheVariants.{Line, FreeLine, Ports, DropPorts, Device, DelDevice, Param, ClearParam};
 ghost use Rattle.sd_base.specs.History.{line_key, ports_key, device_key, param_key};
 ghost use Rattle.sd_base.specs.Part.{Serves, Loses, Forgets};
+ghost use Rattle.claim_table.specs.Ordered.{last_of_each};
 ghost use Rattle.claim_table.specs.ClaimRows.{no_claims, covers};
 ghost use Rattle.claim_table.specs.ClaimCalls.{if_held, line_answer, with_line, holds_line, without_line, ports_answer, with_ports, holds_ports, without_ports, device_answer, with_device, holds_device, without_device, param_answer, with_param, holds_param, without_param, without_owner, param_value, line_holder};
 ghost use Rattle.claim_table.specs.ClaimPart.{HoldsClaims, refused_as, OfEachHistory, holders_of, holds_port, values_of};
 
 use crate::Claim;
 use crate::claim::port_range;
+use crate::params::Params;
 use crate::rows::{
     Rows, count_of, has_claim, has_number, has_port, has_range, latest, meets_range, nth_of,
 };
@@ -52,7 +54,7 @@ pub struct Claims {
     lines: Rows<u32>,
     ports: Rows<u32>,
     devices: Rows<()>,
-    params: Rows<i32>,
+    params: Params,
 }
 
 impl Model for Claims {
@@ -74,7 +76,7 @@ impl Claims {
             lines: Rows::new(alloc)?,
             ports: Rows::new(alloc)?,
             devices: Rows::new(alloc)?,
-            params: Rows::new(alloc)?,
+            params: Params::new(alloc)?,
         })
     }
 
@@ -309,6 +311,13 @@ impl Claims {
         ensures { result.now ≡ self.now.params }
     {
         self.params.as_slice()
+    }
+
+    /// Of each parameter that has one the value that was set last, in order.
+    pub fn latest_params(&self) -> &[Claim<i32>]
+        ensures { result.now ≡ last_of_each self.now.params }
+    {
+        self.params.latest()
     }
 
     /// Takes away the line that an owner holds.

@@ -6,6 +6,7 @@
 
 mod claim;
 mod claims;
+mod params;
 mod rows;
 
 pub use claim::Claim;

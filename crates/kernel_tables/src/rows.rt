@@ -160,7 +160,13 @@ fn lock_of(shares: &Shares, lock: u8, k: u32) -> Found
 {
     match shares.lock_holder(i32::from(lock)) {
         None => Found::Past(k),
-        Some(who) => only(Row::Lock { lock: i32::from(lock), who }, k),
+        Some(who) => only(
+            Row::Lock {
+                lock: i32::from(lock),
+                who,
+            },
+            k,
+        ),
     }
 }
 

@@ -7,3 +7,4 @@ pub mod PartKept
 pub mod Rules
 pub mod Serves
 pub mod Latest
+pub mod Wide

@@ -7,6 +7,7 @@
 mod claim;
 mod claims;
 mod params;
+mod ranges;
 mod rows;
 
 pub use claim::Claim;

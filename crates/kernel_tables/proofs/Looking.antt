@@ -1,6 +1,9 @@
 -- What rows have at a place: rows behind each other, the rows of a list, and the step of a loop over numbers.
-use Rattle.std.proofs.Common.{◌≡◌, ◌≢◌, ℕ, zero, suc, ◌+◌, ◌-◌, ◌<◌, ◌≤◌, List, [], ◌∷◌, ◌++◌, length, get_or, map, Option, Some, None, slice_get, refl, ap, sym, ◌∙◌, arith}
-use Rattle.std.specs.List.{range_with_len, flat_map}
+use Rattle.std.proofs.Common.{◌≡◌, ◌≢◌, ℕ, false, zero, suc, ◌+◌, ◌-◌, ◌<◌, ◌≤◌, List, [], ◌∷◌, ◌++◌, length, get_or, map, Option, Some, None, slice_get, refl, ap, sym, ◌∙◌, arith}
+use Rattle.std.proofs.lemmas.Bool.Decides.{nat_tests}
+use Rattle.std.specs.List.{range_with_len, flat_map, list_any}
+use Rattle.claim_table.specs.declared.claim.Claim.{Claim}
+use Rattle.claim_table.specs.ClaimRows.{is_wide}
 use Rattle.kernel_tables.specs.declared.row.Found.{Found}
 use Rattle.kernel_tables.specs.declared.row.Found.TheVariants.{At, Past}
 use Rattle.kernel_tables.specs.declared.row.Row.{Row}
@@ -122,3 +125,12 @@ left_past rows first end left k j l now is = record {
 
 pub left_none : (rows : ℕ → List Row) (first end left k : ℕ) → end ≤ first → IsLeft rows first end left k → Past left ≡ look_up (flat_map rows (numbers 0 end)) k
 left_none rows first end left k l now = ap (λ ns. look_up (flat_map rows ns) left) (sym (numbers_none first end l)) ∙ now.same
+
+-- a range of ports has at most 65,536
+
+pub narrow_at : (claims : List (Claim ℕ)) (k : ℕ) (d : Claim ℕ) → k < length claims → list_any is_wide claims ≡ false → (get_or claims k d).detail ≤ 65536
+narrow_at [] k d l none = absurd (omega arith)
+narrow_at (c ∷ claims) zero d l none = grind (arith, nat_tests)
+narrow_at (c ∷ claims) (suc k) d l none =
+    let rest : list_any is_wide claims ≡ false = grind arith in
+    narrow_at claims k d (omega arith) rest

@@ -1,7 +1,6 @@
 -- The rows of the tables as they stand.
-use Rattle.std.specs.Prelude.{ℕ, min, List, [], ◌∷◌, ◌++◌, map, get_or, ℤ, pos}
+use Rattle.std.specs.Prelude.{List, [], ◌∷◌, ◌++◌, map, get_or, pos}
 use Rattle.grant_table.specs.declared.blocks.BlockRow.{BlockRow}
-use Rattle.claim_table.specs.declared.claim.Claim.{Claim}
 use Rattle.claim_table.specs.Ordered.{last_of_each}
 use Rattle.claim_table.specs.ClaimRows.{ClaimRows}
 use Rattle.timer_table.specs.declared.fired.Fired.{Fired}
@@ -11,21 +10,14 @@ use Rattle.share_table.specs.Holds.{held_by_all}
 use Rattle.share_table.specs.Rows.{ShareRows}
 use Rattle.kernel_tables.specs.declared.kernel.Kernel.{Kernel}
 use Rattle.kernel_tables.specs.declared.row.Row.{Row}
-use Rattle.kernel_tables.specs.declared.row.Row.TheVariants.{Ports, Clock}
-use Rattle.kernel_tables.specs.TableRows.{block_rows, line_row, device_row, param_row, timer_row, lock_rows, mask_rows, hold_rows, work_row}
-
--- the number of ports in a row: how many the range has, of which there are at most 65,536, so that it is below the greatest number there can be
-abbrev pub range_length : ℕ → ℤ
-range_length n = pos (min n 2147483647)
-
-abbrev pub range_row : Claim ℕ → Row
-range_row c = Ports (pos c.number) (range_length c.detail) c.owner
+use Rattle.kernel_tables.specs.declared.row.Row.TheVariants.{Clock}
+use Rattle.kernel_tables.specs.TableRows.{block_rows, line_row, ports_row, device_row, param_row, timer_row, lock_rows, mask_rows, hold_rows, work_row}
 
 abbrev pub grant_rows : List (List BlockRow) → List Row
 grant_rows t = block_rows (λ owner. get_or t owner [])
 
 abbrev pub claim_rows : ClaimRows → List Row
-claim_rows t = map line_row t.lines ++ (map range_row t.ports ++ (map device_row t.devices ++ map param_row (last_of_each t.params)))
+claim_rows t = map line_row t.lines ++ (map ports_row t.ports ++ (map device_row t.devices ++ map param_row (last_of_each t.params)))
 
 abbrev pub timer_rows : List Fired → List Row
 timer_rows t = map timer_row t

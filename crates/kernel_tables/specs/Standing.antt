@@ -1,7 +1,6 @@
 -- What it means that the kernel's tables stand for a history.
 use Rattle.std.specs.Prelude.{◌≡◌, List}
 use Rattle.sd_base.specs.History.{Entry, History, live_of, clock_of}
-use Rattle.sd_base.specs.Allowed.{IsLawful}
 use Rattle.grant_table.specs.GrantPart.{HoldsGrants}
 use Rattle.claim_table.specs.ClaimPart.{HoldsClaims}
 use Rattle.timer_table.specs.Table.{HoldsTimers}
@@ -19,7 +18,3 @@ pub record HoldsTables (k : Kernel) (live : List Entry) : Type 0 where
 pub record StandsFor (k : Kernel) (h : History) : Type 0 where
   pub tables : HoldsTables k (live_of h)
   pub clock : k.now ≡ clock_of h
-
--- what is said of every lawful history that the kernel stands for
-abbrev pub OfEachHistory : Kernel → (History → Type 0) → Type 0
-OfEachHistory k P = (h : History) → IsLawful h → StandsFor k h → P h

@@ -1,6 +1,7 @@
 //! The tables and the clock.
 ghost use Rattle.std.specs.Prelude.{◌≡◌, [], IfOk, slice_get};
-ghost use Rattle.kernel_tables.specs.Standing.{StandsFor, OfEachHistory};
+ghost use Rattle.kernel_tables.specs.Standing.{StandsFor};
+ghost use Rattle.sd_base.specs.History.{History};
 ghost use Rattle.kernel_tables.specs.TableRows.{tables_of};
 ghost use Rattle.kernel_tables.specs.KernelRows.{kernel_rows};
 
@@ -47,7 +48,7 @@ impl Kernel {
     /// domains that are held, work from the front of the queue, and the clock.
     pub fn row(&self, k: u32) -> Option<Row>
         ensures value { result ≡ slice_get (kernel_rows self.entry.now) k }
-        ensures reads { OfEachHistory self.entry.now (λ h. result ≡ slice_get (tables_of h) k) }
+        ensures reads { (h : History) → StandsFor self.entry.now h → result ≡ slice_get (tables_of h) k }
     {
         let k = match block(&self.grants, k) {
             Found::At(row) => return Some(row),

@@ -10,3 +10,6 @@ mod rows;
 pub use kernel::Kernel;
 pub use row::Row;
 pub use sd_base::BlockState;
+
+#[cfg(test)]
+mod tests;

@@ -1,12 +1,14 @@
 //! Rows of each table by their place. What a place says past the last row is how far past it lies, so that the next table is asked
 //! with that.
-ghost use Rattle.std.specs.Prelude.{◌≡◌, ◌≤◌, [], ◌∷◌, map, pos};
+ghost use Rattle.std.specs.Prelude.{◌≡◌, ◌≤◌, [], ◌∷◌, false, map, pos};
+ghost use Rattle.std.specs.List.{list_any};
+ghost use Rattle.claim_table.specs.ClaimRows.{is_wide};
 ghost use Rattle.share_table.specs.Locks.{lock_at};
 ghost use Rattle.share_table.specs.Masks.{mask_at};
 ghost use Rattle.share_table.specs.Holds.{held_by_all};
 ghost use Rattle.kernel_tables.specs.Places.{look_up};
-ghost use Rattle.kernel_tables.specs.TableRows.{block_row, line_row, device_row, param_row, timer_row, lock_row, lock_rows, mask_row, masks_of_owner, mask_rows, hold_row, hold_rows, work_row};
-ghost use Rattle.kernel_tables.specs.KernelRows.{range_row, grant_rows, claim_rows, timer_rows, share_rows};
+ghost use Rattle.kernel_tables.specs.TableRows.{block_row, line_row, ports_row, device_row, param_row, timer_row, lock_row, lock_rows, mask_row, masks_of_owner, mask_rows, hold_row, hold_rows, work_row};
+ghost use Rattle.kernel_tables.specs.KernelRows.{grant_rows, claim_rows, timer_rows, share_rows};
 
 use crate::row::{Found, Row};
 use claim_table::{Claim, Claims};
@@ -74,7 +76,8 @@ fn line(lines: &[Claim<u32>], k: u32) -> Found
 
 /// A row of ranges of ports.
 fn range(ports: &[Claim<u32>], k: u32) -> Found
-    ensures { result ≡ look_up (map range_row ports.now) k }
+    requires { list_any is_wide ports.now ≡ false }
+    ensures { result ≡ look_up (map ports_row ports.now) k }
 {
     let place = k as usize;
     if place >= ports.len() {
@@ -83,7 +86,7 @@ fn range(ports: &[Claim<u32>], k: u32) -> Found
     let claim = ports[place];
     Found::At(Row::Ports {
         base: i32::from(claim.number),
-        n: claim.detail.min(i32::MAX as u32) as i32,
+        n: claim.detail as i32,
         owner: claim.owner,
     })
 }

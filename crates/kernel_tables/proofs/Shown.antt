@@ -1,12 +1,10 @@
 -- The rows of a kernel's tables are those of every history that the kernel stands for.
-use Rattle.std.proofs.Common.{◌≡◌, ℕ, zero, suc, ◌+◌, ◌-◌, ◌<◌, ◌≤◌, min, Bool, true, false, ltb, List, [], ◌∷◌, ◌++◌, map, ℤ, pos, negsuc, ◌+ℤ◌, int_lt, Option, Some, None, refl, ap, sym, ◌∙◌, subst, append_assoc, get_or, slice_get, arith}
-use Rattle.std.proofs.lemmas.Bool.Decides.{nat_tests}
-use Rattle.std.proofs.lemmas.Int.{ints}
-use Rattle.std.specs.List.{range_with_len, list_any, filter_map, flat_map}
+use Rattle.std.proofs.Common.{◌≡◌, ℕ, zero, suc, ◌+◌, ◌-◌, ◌<◌, ◌≤◌, Bool, List, [], ◌∷◌, ◌++◌, map, pos, Option, refl, ap, ◌∙◌, append_assoc, get_or, slice_get, arith}
+use Rattle.std.specs.List.{range_with_len, flat_map}
 use Rattle.sd_base.specs.History.{Entry, History, live_of}
 use Rattle.sd_base.specs.Blocks.{granted}
 use Rattle.grant_table.specs.GrantPart.{rows_of}
-use Rattle.claim_table.specs.Ordered.{in_order, last_of_each}
+use Rattle.claim_table.specs.Ordered.{last_of_each}
 use Rattle.share_table.specs.Locks.{lock_at, HoldsLocks}
 use Rattle.share_table.specs.Masks.{mask_at, HoldsMasks}
 use Rattle.share_table.specs.Holds.{held_by_all, HoldsHolds}
@@ -15,7 +13,7 @@ use Rattle.kernel_tables.specs.declared.kernel.Kernel.{Kernel}
 use Rattle.kernel_tables.specs.declared.row.Row.{Row}
 use Rattle.kernel_tables.specs.declared.row.Row.TheVariants.{Clock}
 use Rattle.kernel_tables.specs.Places.{numbers}
-use Rattle.kernel_tables.specs.TableRows.{block_row, block_rows, line_row, ports_row, device_row, param_row, timer_row, lock_row, lock_rows, mask_row, masks_of_owner, mask_rows, hold_row, hold_rows, work_row, holder_in, masks_in, holds_in, tables_of}
+use Rattle.kernel_tables.specs.TableRows.{block_row, line_row, ports_row, device_row, param_row, timer_row, lock_row, lock_rows, mask_row, masks_of_owner, mask_rows, hold_row, hold_rows, work_row, holder_in, masks_in, holds_in, tables_of}
 use Rattle.kernel_tables.specs.KernelRows.{kernel_rows}
 use Rattle.kernel_tables.specs.Standing.{StandsFor}
 

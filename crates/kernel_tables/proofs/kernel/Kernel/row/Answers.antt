@@ -1,8 +1,8 @@
-use Rattle.std.proofs.Common.{◌≡◌, List, ◌++◌, ◌∷◌, [], Option, Some, None, slice_get, refl, arith}
+use Rattle.std.proofs.Common.{List, ◌++◌, ◌∷◌, [], Some, None}
 use Rattle.kernel_tables.specs.declared.kernel.Kernel.{Kernel}
 use Rattle.kernel_tables.specs.declared.row.Row.{Row}
 use Rattle.kernel_tables.specs.declared.row.Row.TheVariants.{Clock}
-use Rattle.kernel_tables.specs.KernelRows.{grant_rows, claim_rows, timer_rows, share_rows, kernel_rows}
+use Rattle.kernel_tables.specs.KernelRows.{grant_rows, claim_rows, timer_rows, share_rows}
 use Rattle.kernel_tables.proofs.Looking.{row_first, row_then, only_row, no_row}
 use Rattle.kernel_tables.proofs.Shown.{reads}
 use Rattle.kernel_tables.proofs.kernel.Kernel.row.Goals as goal

@@ -1,1 +1,4 @@
 pub mod NetLists
+pub mod NetRows
+pub mod NetPart
+pub mod Places

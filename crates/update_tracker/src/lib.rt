@@ -1,11 +1,12 @@
-//! What recovery from a failed driver stands on: how the net list of an owner, its updates that none of its later ones
-//! ended, goes with the history.
-//!
-//! The tracker itself, which keeps the kernel's tables in step with a history and takes a failed driver's updates back,
-//! comes here when the tables stand together.
+//! What recovery from a failed driver stands on.
 #![tactic(auto)]
 
 ghost use Rattle.update_tracker.specs.NetLists.{NetListsAfterEntry, NothingLeftOfOwner};
+
+mod net_log;
+mod undo;
+
+pub use undo::{Reply, Undo};
 
 /// The net list of an owner after one more accepted update of its own is what the update's role makes of its own live
 /// entries alone; the net lists of all others stay. So an undo log can be kept for each owner by itself.

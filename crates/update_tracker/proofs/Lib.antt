@@ -1,1 +1,4 @@
 pub mod Ended
+pub mod Frames
+pub mod Serving
+pub mod FrontWork

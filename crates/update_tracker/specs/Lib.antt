@@ -2,3 +2,4 @@ pub mod NetLists
 pub mod NetRows
 pub mod NetPart
 pub mod Places
+pub mod Answered

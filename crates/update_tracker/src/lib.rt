@@ -3,7 +3,9 @@
 
 ghost use Rattle.update_tracker.specs.NetLists.{NetListsAfterEntry, NothingLeftOfOwner};
 
+mod answers;
 mod net_log;
+mod requests;
 mod undo;
 
 pub use undo::{Reply, Undo};

@@ -24,22 +24,20 @@ abbrev pub LeavesGrants : Update → Type 0
 LeavesGrants u = (blocks : List Block) → blocks_after u blocks ≡ blocks
 
 -- the update is of no line, port, device or parameter
-pub record LeavesClaims (u : Update) : Type 0 where
-  pub lines : same_resource (key_of u).resource OfLines ≡ false
-  pub ports : same_resource (key_of u).resource OfPorts ≡ false
-  pub devices : same_resource (key_of u).resource OfDevices ≡ false
-  pub params : same_resource (key_of u).resource OfParams ≡ false
+abbrev pub LeavesClaims : Update → Type 0
+LeavesClaims u =
+    (same_resource (key_of u).resource OfLines ≡ false) × (same_resource (key_of u).resource OfPorts ≡ false)
+    × (same_resource (key_of u).resource OfDevices ≡ false) × (same_resource (key_of u).resource OfParams ≡ false)
 
 -- the update is of no timer
 abbrev pub LeavesTimers : Update → Type 0
 LeavesTimers u = same_resource (key_of u).resource OfTimers ≡ false
 
 -- the update is of no lock, mask, hold or item of work
-pub record LeavesShares (u : Update) : Type 0 where
-  pub locks : same_resource (key_of u).resource OfLocks ≡ false
-  pub masks : same_resource (key_of u).resource OfMasks ≡ false
-  pub holds : same_resource (key_of u).resource OfHolds ≡ false
-  pub work : same_resource (key_of u).resource OfWork ≡ false
+abbrev pub LeavesShares : Update → Type 0
+LeavesShares u =
+    (same_resource (key_of u).resource OfLocks ≡ false) × (same_resource (key_of u).resource OfMasks ≡ false)
+    × (same_resource (key_of u).resource OfHolds ≡ false) × (same_resource (key_of u).resource OfWork ≡ false)
 
 -- the update is no change of the clock
 abbrev pub LeavesClock : Update → Type 0
@@ -49,15 +47,15 @@ pub grants_kept : (t : List (List BlockRow)) (owner : ℕ) (u : Update) (live : 
 grants_kept t owner u live leaves holds = grants.others_kept t owner u live leaves holds
 
 pub claims_kept : (t : ClaimRows) (owner : ℕ) (u : Update) (live : List Entry) → LeavesClaims u → HoldsClaims t live → HoldsClaims t (after_entry (entry owner u) live)
-claims_kept t owner u live leaves holds = claims.others_kept t (entry owner u) live leaves.lines leaves.ports leaves.devices leaves.params holds
+claims_kept t owner u live leaves holds = claims.others_kept t (entry owner u) live leaves.0 leaves.1 leaves.2 leaves.3 holds
 
 pub timers_kept : (t : List Fired) (owner : ℕ) (u : Update) (live : List Entry) → LeavesTimers u → HoldsTimers t live → HoldsTimers t (after_entry (entry owner u) live)
 timers_kept t owner u live leaves holds = holds ∙ sym (timers-other (entry owner u) live leaves)
 
 pub shares_kept : (t : ShareRows) (owner : ℕ) (u : Update) (live : List Entry) → LeavesShares u → HoldsShares t live → HoldsShares t (after_entry (entry owner u) live)
 shares_kept t owner u live leaves holds = record {
-  locks = locks-after t.locks (entry owner u) live leaves.locks holds.locks;
-  masks = masks-after t.masks (entry owner u) live leaves.masks holds.masks;
-  holds = holds-after t.holds (entry owner u) live leaves.holds holds.holds;
-  work = work-after t.work (entry owner u) live leaves.work holds.work;
+  locks = locks-after t.locks (entry owner u) live leaves.0 holds.locks;
+  masks = masks-after t.masks (entry owner u) live leaves.1 holds.masks;
+  holds = holds-after t.holds (entry owner u) live leaves.2 holds.holds;
+  work = work-after t.work (entry owner u) live leaves.3 holds.work;
 }

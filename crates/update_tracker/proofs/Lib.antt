@@ -2,3 +2,6 @@ pub mod Ended
 pub mod Frames
 pub mod Serving
 pub mod FrontWork
+pub mod LogParts
+pub mod OfItems
+pub mod NetShown

@@ -1,5 +1,5 @@
 -- What each table serves, the kernel serves.
-use Rattle.std.proofs.Common.{◌≡◌, ℕ, List, ℤ, Bool, Option, Some, None, Ok, OnOk, refl, ap, sym, ◌∙◌, subst}
+use Rattle.std.proofs.Common.{◌≡◌, ℕ, List, ◌∷◌, ℤ, Bool, Option, Some, None, Ok, OnOk, refl, ap, sym, ◌∙◌, subst}
 use Rattle.sd_base.specs.declared.history.Layout.{Layout}
 use Rattle.sd_base.specs.declared.history.Refusal.{Refusal}
 use Rattle.sd_base.specs.declared.history.Update.{Update}
@@ -122,8 +122,8 @@ pub grant_serves : (k : Kernel) (new : List (List BlockRow)) (owner : ℕ) (layo
 grant_serves k new owner layout n image answer result is base serves h lawful proper stands =
     let served = serves h lawful proper stands.tables.grants in
     let u : Update = Grant layout n image in
-    let none : LeavesClaims u = record { lines = refl; ports = refl; devices = refl; params = refl } in
-    let unshared : LeavesShares u = record { locks = refl; masks = refl; holds = refl; work = refl } in (
+    let none : LeavesClaims u = (refl, refl, refl, refl) in
+    let unshared : LeavesShares u = (refl, refl, refl, refl) in (
       is ∙ based_as answer (refusal h owner u) (next_base (granted h owner)) served.0 (λ b some. base b some h lawful proper stands.tables.grants),
       subst (λ r. OnOk r (StandsFor (record k { grants = new }) (entry owner u ∷ h))) (sym is)
       (granted_ok answer (StandsFor (record k { grants = new }) (entry owner u ∷ h)) (λ ok. grants_stand k new owner u h none refl unshared (λ now. refl) stands (served.1 ok))),

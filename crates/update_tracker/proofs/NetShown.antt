@@ -32,10 +32,10 @@ eqb_itself n = grind (arith, nat_tests)
 is_some_item : (own : Bool) (u : Update) (blocks : List Block) (items : List Undo) → length (in_front (cond own (block_item u blocks) None) items) ≡ cond (is_block_update u && own) 1 0 + length items
 is_some_item true (Grant layout n image) blocks items = omega arith
 is_some_item true (Free base) blocks items = omega arith
-is_some_item false (Grant layout n image) blocks items = refl
-is_some_item false (Free base) blocks items = refl
-is_some_item true _ blocks items = refl
-is_some_item false _ blocks items = refl
+is_some_item false (Grant layout n image) blocks items = omega arith
+is_some_item false (Free base) blocks items = omega arith
+is_some_item true _ blocks items = omega arith
+is_some_item false _ blocks items = omega arith
 
 pub length-block_items : (owner : ℕ) (live : List Entry) → length (block_items owner live) ≡ count_by (is_block_entry owner) live
 length-block_items owner [] = refl

@@ -5,3 +5,5 @@ pub mod FrontWork
 pub mod LogParts
 pub mod OfItems
 pub mod NetShown
+pub mod Caps
+pub mod Bounds

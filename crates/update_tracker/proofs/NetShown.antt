@@ -24,7 +24,7 @@ use Rattle.update_tracker.specs.NetPart.{in_front, is_block_update, is_block_ent
 use Rattle.update_tracker.proofs.LogParts.{row, blocks-without_first, blocks-without_last, notes-without_first, notes-without_last, notes-without_first_other, notes-without_last_other}
 use Rattle.update_tracker.proofs.OfItems.{is_item, GoWith, own_items, item_no_block, line_item, ports_item, device_item, param_item, timer_item, hold_item, mask_item, work_item, is_own_lock, lock_item}
 
-eqb_itself : (n : ℕ) → eqb n n ≡ true
+pub eqb_itself : (n : ℕ) → eqb n n ≡ true
 eqb_itself n = grind (arith, nat_tests)
 
 -- how many grants and releases an owner has live

@@ -7,3 +7,4 @@ pub mod OfItems
 pub mod NetShown
 pub mod Caps
 pub mod Bounds
+pub mod Merged

@@ -3,3 +3,4 @@ pub mod NetRows
 pub mod NetPart
 pub mod Places
 pub mod Answered
+pub mod Tracking

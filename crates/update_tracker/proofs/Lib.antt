@@ -8,3 +8,4 @@ pub mod NetShown
 pub mod Caps
 pub mod Bounds
 pub mod Merged
+pub mod Histories

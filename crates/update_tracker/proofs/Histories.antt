@@ -37,14 +37,24 @@ get_none (suc n) (suc i) = get_none n i
 shows_nothing : (owner : ℕ) (rows : NetRows) → rows ≡ no_rows → ShowsNet owner rows []
 shows_nothing owner rows is = subst (λ r. ShowsNet owner r []) (sym is) (record { blocks = refl; notes = refl })
 
-pub begins : (kernel : Kernel) → StandsFor kernel [] → Stands (record { kernel = kernel; logs = replicate 5 no_rows }) []
+begins : (kernel : Kernel) → StandsFor kernel [] → Stands (record { kernel = kernel; logs = replicate 5 no_rows }) []
 begins kernel stands = record {
   kernel = stands;
   logs = λ owner few. shows_nothing owner (get_or (replicate 5 no_rows) owner no_rows) (get_none 5 owner);
 }
 
-pub first_history : (kernel : Kernel) → StandsFor kernel [] → HasHistory (record { kernel = kernel; logs = replicate 5 no_rows })
+first_history : (kernel : Kernel) → StandsFor kernel [] → HasHistory (record { kernel = kernel; logs = replicate 5 no_rows })
 first_history kernel stands = record { history = []; lawful = tt; proper = tt; stands = begins kernel stands; places = refl }
+
+-- five logs of nothing
+pub five : (a b c d e : NetRows) → a ≡ no_rows → b ≡ no_rows → c ≡ no_rows → d ≡ no_rows → e ≡ no_rows → a ∷ b ∷ c ∷ d ∷ e ∷ [] ≡ replicate 5 no_rows
+five a b c d e ha hb hc hd he = rw ha (rw hb (rw hc (rw hd (rw he refl))))
+
+pub begins_with : (kernel : Kernel) (logs : List NetRows) → logs ≡ replicate 5 no_rows → StandsFor kernel [] → Stands (record { kernel = kernel; logs = logs }) []
+begins_with kernel logs is stands = subst (λ l. Stands (record { kernel = kernel; logs = l }) []) (sym is) (begins kernel stands)
+
+pub first_with : (kernel : Kernel) (logs : List NetRows) → logs ≡ replicate 5 no_rows → StandsFor kernel [] → HasHistory (record { kernel = kernel; logs = logs })
+first_with kernel logs is stands = subst (λ l. HasHistory (record { kernel = kernel; logs = l })) (sym is) (first_history kernel stands)
 
 -- One update more.
 

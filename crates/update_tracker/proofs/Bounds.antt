@@ -71,10 +71,13 @@ line_at by o k _ fits h = cc
 
 few_lines : (o : ℕ) (live : List Entry) → IsSound live → count_by (is_of_kind o OfLines) live ≤ 64
 few_lines o live s =
-    omega (arith, pigeons (is_of_kind o OfLines) line_index 64 1 live
-      (list_any-wider is_astray (λ e. is_of_kind o OfLines e && not (ltb (line_index e) 64)) (λ e h. line_astray e.owner o e.update h) live s.in_range)
-      (λ k fits. (let one : count_by (is_of o (line_key (pos k))) live ≤ 1 = s.singles o (line_key (pos k)) refl in
-          omega (arith, count-narrower (λ e. is_of_kind o OfLines e && eqb (line_index e) k) (is_of o (line_key (pos k))) (λ e h. line_at e.owner o k e.update fits h) live))))
+    omega (
+      arith,
+      pigeons (is_of_kind o OfLines) line_index 64 1 live
+          (list_any-wider is_astray (λ e. is_of_kind o OfLines e && not (ltb (line_index e) 64)) (λ e h. line_astray e.owner o e.update h) live s.in_range)
+          (λ k fits. (let one : count_by (is_of o (line_key (pos k))) live ≤ 1 = s.singles o (line_key (pos k)) refl in
+          omega (arith, count-narrower (λ e. is_of_kind o OfLines e && eqb (line_index e) k) (is_of o (line_key (pos k))) (λ e h. line_at e.owner o k e.update fits h) live))),
+    )
 
 -- Locks.
 
@@ -92,10 +95,13 @@ lock_at by o k _ fits h = cc
 
 few_locks : (o : ℕ) (live : List Entry) → IsSound live → count_by (is_of_kind o OfLocks) live ≤ 64
 few_locks o live s =
-    omega (arith, pigeons (is_of_kind o OfLocks) line_index 64 1 live
-      (list_any-wider is_astray (λ e. is_of_kind o OfLocks e && not (ltb (line_index e) 64)) (λ e h. lock_astray e.owner o e.update h) live s.in_range)
-      (λ k fits. (let one : count_by (is_lock (pos k)) live ≤ 1 = s.locks (pos k) in
-          omega (arith, count-narrower (λ e. is_of_kind o OfLocks e && eqb (line_index e) k) (is_lock (pos k)) (λ e h. lock_at e.owner o k e.update fits h) live))))
+    omega (
+      arith,
+      pigeons (is_of_kind o OfLocks) line_index 64 1 live
+          (list_any-wider is_astray (λ e. is_of_kind o OfLocks e && not (ltb (line_index e) 64)) (λ e h. lock_astray e.owner o e.update h) live s.in_range)
+          (λ k fits. (let one : count_by (is_lock (pos k)) live ≤ 1 = s.locks (pos k) in
+          omega (arith, count-narrower (λ e. is_of_kind o OfLocks e && eqb (line_index e) k) (is_lock (pos k)) (λ e h. lock_at e.owner o k e.update fits h) live))),
+    )
 
 -- Holds.
 
@@ -113,10 +119,13 @@ hold_at by o k _ fits h = cc
 
 few_holds : (o : ℕ) (live : List Entry) → IsSound live → KeepsCaps o live → count_by (is_of_kind o OfHolds) live ≤ 512
 few_holds o live s caps =
-    omega (arith, pigeons (is_of_kind o OfHolds) line_index 64 8 live
-      (list_any-wider is_astray (λ e. is_of_kind o OfHolds e && not (ltb (line_index e) 64)) (λ e h. hold_astray e.owner o e.update h) live s.in_range)
-      (λ k fits. (let eight : count_by (is_of o (hold_key (pos k))) live ≤ 8 = caps.holds (pos k) in
-          omega (arith, count-narrower (λ e. is_of_kind o OfHolds e && eqb (line_index e) k) (is_of o (hold_key (pos k))) (λ e h. hold_at e.owner o k e.update fits h) live))))
+    omega (
+      arith,
+      pigeons (is_of_kind o OfHolds) line_index 64 8 live
+          (list_any-wider is_astray (λ e. is_of_kind o OfHolds e && not (ltb (line_index e) 64)) (λ e h. hold_astray e.owner o e.update h) live s.in_range)
+          (λ k fits. (let eight : count_by (is_of o (hold_key (pos k))) live ≤ 8 = caps.holds (pos k) in
+          omega (arith, count-narrower (λ e. is_of_kind o OfHolds e && eqb (line_index e) k) (is_of o (hold_key (pos k))) (λ e h. hold_at e.owner o k e.update fits h) live))),
+    )
 
 -- Masks.
 
@@ -135,10 +144,13 @@ mask_at by o k _ h = cc
 
 few_masks : (o : ℕ) (live : List Entry) → IsSound live → list_any improper live ≡ false → count_by (is_of_kind o OfMasks) live ≤ 9
 few_masks o live s proper =
-    omega (arith, pigeons (is_of_kind o OfMasks) task_of 9 1 live
-      (list_any-wider improper (λ e. is_of_kind o OfMasks e && not (ltb (task_of e) 9)) (λ e h. mask_improper e.owner o e.update h) live proper)
-      (λ k fits. (let one : count_by (is_of o (mask_key k)) live ≤ 1 = s.singles o (mask_key k) refl in
-          omega (arith, count-narrower (λ e. is_of_kind o OfMasks e && eqb (task_of e) k) (is_of o (mask_key k)) (λ e h. mask_at e.owner o k e.update h) live))))
+    omega (
+      arith,
+      pigeons (is_of_kind o OfMasks) task_of 9 1 live
+          (list_any-wider improper (λ e. is_of_kind o OfMasks e && not (ltb (task_of e) 9)) (λ e h. mask_improper e.owner o e.update h) live proper)
+          (λ k fits. (let one : count_by (is_of o (mask_key k)) live ≤ 1 = s.singles o (mask_key k) refl in
+          omega (arith, count-narrower (λ e. is_of_kind o OfMasks e && eqb (task_of e) k) (is_of o (mask_key k)) (λ e h. mask_at e.owner o k e.update h) live))),
+    )
 
 -- Items of work.
 
@@ -286,9 +298,20 @@ notes_sum : (o : ℕ) (live : List Entry) → length (notes_of o live) ≤
     + count_by (is_of_kind o OfLocks) live + count_by (is_of_kind o OfHolds) live + count_by (is_of_kind o OfWork) live + count_by (is_of_kind o OfMasks) live
 notes_sum o [] = omega arith
 notes_sum o (e ∷ live) =
-    omega (arith, one_note (is_owner o e) e.update (count_by (is_block_entry o) live) (notes_of o live), count_by-cons (is_of_kind o OfLines) e live, count_by-cons (is_of_kind o OfPorts) e live,
-      count_by-cons (is_of_kind o OfDevices) e live, count_by-cons (is_of_kind o OfParams) e live, count_by-cons (is_of_kind o OfTimers) e live, count_by-cons (is_of_kind o OfLocks) e live,
-      count_by-cons (is_of_kind o OfHolds) e live, count_by-cons (is_of_kind o OfWork) e live, count_by-cons (is_of_kind o OfMasks) e live, notes_sum o live)
+    omega (
+      arith,
+      one_note (is_owner o e) e.update (count_by (is_block_entry o) live) (notes_of o live),
+      count_by-cons (is_of_kind o OfLines) e live,
+      count_by-cons (is_of_kind o OfPorts) e live,
+      count_by-cons (is_of_kind o OfDevices) e live,
+      count_by-cons (is_of_kind o OfParams) e live,
+      count_by-cons (is_of_kind o OfTimers) e live,
+      count_by-cons (is_of_kind o OfLocks) e live,
+      count_by-cons (is_of_kind o OfHolds) e live,
+      count_by-cons (is_of_kind o OfWork) e live,
+      count_by-cons (is_of_kind o OfMasks) e live,
+      notes_sum o live,
+    )
 
 pub few_notes : (h : History) (o : ℕ) → IsLawful h → IsProper h → length (notes_of o (live_of h)) ≤ 873
 few_notes h o lawful proper =
@@ -322,11 +345,25 @@ one_entry true _ after notes = omega arith
 entries_sum : (o : ℕ) (live : List Entry) → count_by (is_owner o) live ≤ count_by (is_block_entry o) live + length (notes_of o live) + count_by is_gone live
 entries_sum o [] = omega arith
 entries_sum o (e ∷ live) =
-    omega (arith, one_entry (is_owner o e) e.update (count_by (is_block_entry o) live) (notes_of o live), count_by-cons (is_owner o) e live, count_by-cons (is_block_entry o) e live,
-      count_by-cons (λ (x : Entry). same_resource (live_key x.update).resource OfNothing) e live, entries_sum o live)
+    omega (
+      arith,
+      one_entry (is_owner o e) e.update (count_by (is_block_entry o) live) (notes_of o live),
+      count_by-cons (is_owner o) e live,
+      count_by-cons (is_block_entry o) e live,
+      count_by-cons (λ (x : Entry). same_resource (live_key x.update).resource OfNothing) e live,
+      entries_sum o live,
+    )
 
 -- an owner has at most 9,065 entries in its net list
 pub net_is_short : (h : History) (o : ℕ) → IsLawful h → IsProper h → length (net_of h o) ≤ 9065
 net_is_short h o lawful proper =
-    omega (arith, length-map (filter (is_owner o) (live_of h)) (λ (e : Entry). e.update), length-within (is_owner o) (live_of h), entries_sum o (live_of h), count_by-none is_gone (live_of h) (none_gone h),
-      few_notes h o lawful proper, few_block_items h o lawful proper, length-block_items o (live_of h))
+    omega (
+      arith,
+      length-map (filter (is_owner o) (live_of h)) (λ (e : Entry). e.update),
+      length-within (is_owner o) (live_of h),
+      entries_sum o (live_of h),
+      count_by-none is_gone (live_of h) (none_gone h),
+      few_notes h o lawful proper,
+      few_block_items h o lawful proper,
+      length-block_items o (live_of h),
+    )

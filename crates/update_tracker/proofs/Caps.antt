@@ -80,10 +80,10 @@ replaced : (resource : Resource) (key : Key) (owner cap : ℕ) (u : Update) (liv
 replaced resource key owner cap u live kind is ok few =
     subst (λ k. count_by (is_of_kind owner resource) (entry owner u ∷ without_first (is_of owner k) live) ≤ cap) (sym is)
     (elim (list_any (is_of owner key) live) as (λ b. list_any (is_of owner key) live ≡ b → count_by (is_of_kind owner resource) (entry owner u ∷ without_first (is_of owner key) live) ≤ cap) [
-        | true ↦ λ there. omega (arith, in_place (is_of owner key) (is_of_kind owner resource) (entry owner u) live (λ x h. subst (λ r. is_of_kind owner r x ≡ true) kind (key_kind owner key x h)) there)
-        | false ↦ λ none.
-            let room : count_by (is_of_kind owner resource) live < cap = grind (arith, nat_tests) in
-            omega (arith, count_by-cons (is_of_kind owner resource) (entry owner u) (without_first (is_of owner key) live), at_most_one (is_of_kind owner resource (entry owner u)), count_by-without_first (is_of owner key) (is_of_kind owner resource) live)
+      | true ↦ λ there. omega (arith, in_place (is_of owner key) (is_of_kind owner resource) (entry owner u) live (λ x h. subst (λ r. is_of_kind owner r x ≡ true) kind (key_kind owner key x h)) there)
+      | false ↦ λ none.
+          let room : count_by (is_of_kind owner resource) live < cap = grind (arith, nat_tests) in
+          omega (arith, count_by-cons (is_of_kind owner resource) (entry owner u) (without_first (is_of owner key) live), at_most_one (is_of_kind owner resource (entry owner u)), count_by-without_first (is_of owner key) (is_of_kind owner resource) live)
     ] refl)
 
 params_after : (live : List Entry) (clock owner o : ℕ) (u : Update) → refusal_on live clock owner u ≡ None → count_by (is_of_kind o OfParams) live ≤ 32 → count_by (is_of_kind o OfParams) (after_entry (entry owner u) live) ≤ 32

@@ -128,7 +128,7 @@ has_room t new owner u answer reply d has fit serves is =
     let own : get_or t.logs owner d ≡ get_or t.logs owner no_rows = get_or_default t.logs owner d no_rows (omega arith) in
     subst (λ r. HasRoom (noted u reply r)) (sym own)
     (shown_room owner (noted u reply (get_or t.logs owner no_rows)) (entry owner u ∷ h) (ok.allowed, has.lawful) (fit, has.proper)
-      (own_log owner u reply (get_or t.logs owner no_rows) new h has.lawful has.proper ok (has.stands.logs owner fits)))
+    (own_log owner u reply (get_or t.logs owner no_rows) new h has.lawful has.proper ok (has.stands.logs owner fits)))
 
 pub next_history : (t : TrackedRows) (new : Kernel) (owner : ℕ) (u : Update) (answer : Answer) (reply : Reply) (rows d : NetRows) → HasHistory t → is_proper owner u ≡ true → ServesKernel t.kernel owner u answer new → answer ≡ Ok reply →
     rows ≡ noted u reply (get_or t.logs owner d) → HasHistory (record { kernel = new; logs = set t.logs owner rows })

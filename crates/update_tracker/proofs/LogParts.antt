@@ -54,9 +54,10 @@ blocks-without_first owner p none (e ∷ live) =
             ap (λ o. in_front o (block_items owner live)) (sym (not_block.item (granted live owner))),
           )
       | false ↦ λ is. (
-          ap (λ bs. cond (is_owner owner e) (blocks_after e.update bs) bs) rest.0,
-          ap (λ bs. in_front (if_own owner e (block_item e.update bs)) (block_items owner (without_first p live))) rest.0
-          ∙ ap (in_front (if_own owner e (block_item e.update (granted live owner)))) rest.1)
+        ap (λ bs. cond (is_owner owner e) (blocks_after e.update bs) bs) rest.0,
+        ap (λ bs. in_front (if_own owner e (block_item e.update bs)) (block_items owner (without_first p live))) rest.0
+            ∙ ap (in_front (if_own owner e (block_item e.update (granted live owner)))) rest.1,
+      )
     ] refl
 
 pub blocks-without_last : (owner : ℕ) (p : Entry → Bool) → ((e : Entry) → p e ≡ true → is_block_entry owner e ≡ false) → (live : List Entry) →
@@ -66,9 +67,10 @@ blocks-without_last owner p none (e ∷ live) =
     let rest = blocks-without_last owner p none live in
     elim (list_any p live) as (λ a. (granted (cond a (e ∷ without_last p live) (cond (p e) live (e ∷ live))) owner ≡ granted (e ∷ live) owner) × (block_items owner (cond a (e ∷ without_last p live) (cond (p e) live (e ∷ live))) ≡ block_items owner (e ∷ live))) [
       | true ↦ (
-          ap (λ bs. cond (is_owner owner e) (blocks_after e.update bs) bs) rest.0,
-          ap (λ bs. in_front (if_own owner e (block_item e.update bs)) (block_items owner (without_last p live))) rest.0
-          ∙ ap (in_front (if_own owner e (block_item e.update (granted live owner)))) rest.1)
+        ap (λ bs. cond (is_owner owner e) (blocks_after e.update bs) bs) rest.0,
+        ap (λ bs. in_front (if_own owner e (block_item e.update bs)) (block_items owner (without_last p live))) rest.0
+            ∙ ap (in_front (if_own owner e (block_item e.update (granted live owner)))) rest.1,
+      )
       | false ↦
           elim (p e) as (λ b. p e ≡ b → (granted (cond b live (e ∷ live)) owner ≡ granted (e ∷ live) owner) × (block_items owner (cond b live (e ∷ live)) ≡ block_items owner (e ∷ live))) [
             | true ↦ λ is.

@@ -66,7 +66,7 @@ merged_items owner (e ∷ live) =
     let count : count_by (is_block_entry owner) live ≡ length (block_items owner live) = sym (length-block_items owner live) in
     let head : HeadWithin (notes_of owner live) (length (block_items owner live)) = subst (HeadWithin (notes_of owner live)) count (head_within owner live) in
     elim (is_owner owner e) as (λ b. merged (in_front (cond b (block_item e.update (granted live owner)) None) (block_items owner live)) (in_front (note_after (cond b (note_item e.update) None) (count_by (is_block_entry owner) live)) (notes_of owner live))
-      ≡ in_front (cond b (item_of e.update (granted live owner)) None) (net_items owner live)) [
+    ≡ in_front (cond b (item_of e.update (granted live owner)) None) (net_items owner live)) [
       | true ↦ one_kind e.update (granted live owner) (block_items owner live) (notes_of owner live) (count_by (is_block_entry owner) live) count head
           ∙ ap (in_front (item_of e.update (granted live owner))) (merged_items owner live)
       | false ↦ merged_items owner live

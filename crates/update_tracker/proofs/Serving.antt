@@ -41,15 +41,15 @@ claims_serve k new owner u answer result g t s c done is serves h lawful proper 
     let served = serves h lawful proper stands.tables.claims in (
       done_as h owner u answer result is done served.0,
       subst (λ r. OnOk r (StandsFor (record k { claims = new }) (entry owner u ∷ h))) (sym is)
-      (accepted answer Done (StandsFor (record k { claims = new }) (entry owner u ∷ h)) (λ ok. record {
-        tables = record {
-          grants = grants_kept k.grants owner u (live_of h) g stands.tables.grants;
-          claims = served.1 ok;
-          timers = timers_kept k.timers owner u (live_of h) t stands.tables.timers;
-          shares = shares_kept k.shares owner u (live_of h) s stands.tables.shares;
-        };
-        clock = stands.clock ∙ sym (c (clock_of h));
-      })),
+          (accepted answer Done (StandsFor (record k { claims = new }) (entry owner u ∷ h)) (λ ok. record {
+            tables = record {
+              grants = grants_kept k.grants owner u (live_of h) g stands.tables.grants;
+              claims = served.1 ok;
+              timers = timers_kept k.timers owner u (live_of h) t stands.tables.timers;
+              shares = shares_kept k.shares owner u (live_of h) s stands.tables.shares;
+            };
+            clock = stands.clock ∙ sym (c (clock_of h));
+          })),
     )
 
 pub timers_serve : (k : Kernel) (new : List Fired) (owner : ℕ) (u : Update) (answer : Option Refusal) (result : Answer) → LeavesGrants u → LeavesClaims u → LeavesShares u → LeavesClock u → IsDone owner u →
@@ -58,15 +58,15 @@ timers_serve k new owner u answer result g m s c done is serves h lawful proper 
     let served = serves h lawful proper stands.tables.timers in (
       done_as h owner u answer result is done served.0,
       subst (λ r. OnOk r (StandsFor (record k { timers = new }) (entry owner u ∷ h))) (sym is)
-      (accepted answer Done (StandsFor (record k { timers = new }) (entry owner u ∷ h)) (λ ok. record {
-        tables = record {
-          grants = grants_kept k.grants owner u (live_of h) g stands.tables.grants;
-          claims = claims_kept k.claims owner u (live_of h) m stands.tables.claims;
-          timers = served.1 ok;
-          shares = shares_kept k.shares owner u (live_of h) s stands.tables.shares;
-        };
-        clock = stands.clock ∙ sym (c (clock_of h));
-      })),
+          (accepted answer Done (StandsFor (record k { timers = new }) (entry owner u ∷ h)) (λ ok. record {
+            tables = record {
+              grants = grants_kept k.grants owner u (live_of h) g stands.tables.grants;
+              claims = claims_kept k.claims owner u (live_of h) m stands.tables.claims;
+              timers = served.1 ok;
+              shares = shares_kept k.shares owner u (live_of h) s stands.tables.shares;
+            };
+            clock = stands.clock ∙ sym (c (clock_of h));
+          })),
     )
 
 pub shares_serve : (k : Kernel) (new : ShareRows) (owner : ℕ) (u : Update) (answer : Option Refusal) (result : Answer) → LeavesGrants u → LeavesClaims u → LeavesTimers u → LeavesClock u → IsDone owner u →
@@ -75,15 +75,15 @@ shares_serve k new owner u answer result g m t c done is serves h lawful proper 
     let served = serves h lawful proper stands.tables.shares in (
       done_as h owner u answer result is done served.0,
       subst (λ r. OnOk r (StandsFor (record k { shares = new }) (entry owner u ∷ h))) (sym is)
-      (accepted answer Done (StandsFor (record k { shares = new }) (entry owner u ∷ h)) (λ ok. record {
-        tables = record {
-          grants = grants_kept k.grants owner u (live_of h) g stands.tables.grants;
-          claims = claims_kept k.claims owner u (live_of h) m stands.tables.claims;
-          timers = timers_kept k.timers owner u (live_of h) t stands.tables.timers;
-          shares = served.1 ok;
-        };
-        clock = stands.clock ∙ sym (c (clock_of h));
-      })),
+          (accepted answer Done (StandsFor (record k { shares = new }) (entry owner u ∷ h)) (λ ok. record {
+            tables = record {
+              grants = grants_kept k.grants owner u (live_of h) g stands.tables.grants;
+              claims = claims_kept k.claims owner u (live_of h) m stands.tables.claims;
+              timers = timers_kept k.timers owner u (live_of h) t stands.tables.timers;
+              shares = served.1 ok;
+            };
+            clock = stands.clock ∙ sym (c (clock_of h));
+          })),
     )
 
 -- a change of the blocks alone, with the reply that it has
@@ -105,7 +105,7 @@ release_serves k new owner u answer result m t s c done is serves h lawful prope
     let served = serves h lawful proper stands.tables.grants in (
       done_as h owner u answer result is done served.0,
       subst (λ r. OnOk r (StandsFor (record k { grants = new }) (entry owner u ∷ h))) (sym is)
-      (accepted answer Done (StandsFor (record k { grants = new }) (entry owner u ∷ h)) (λ ok. grants_stand k new owner u h m t s c stands (served.1 ok))),
+          (accepted answer Done (StandsFor (record k { grants = new }) (entry owner u ∷ h)) (λ ok. grants_stand k new owner u h m t s c stands (served.1 ok))),
     )
 
 based_as : (answer : Option ℕ) (refuses : Option Refusal) (base : ℕ) → no_room answer ≡ refuses → ((b : ℕ) → answer ≡ Some b → b ≡ base) → based answer ≡ unless refuses (Base base)
@@ -126,5 +126,5 @@ grant_serves k new owner layout n image answer result is base serves h lawful pr
     let unshared : LeavesShares u = (refl, refl, refl, refl) in (
       is ∙ based_as answer (refusal h owner u) (next_base (granted h owner)) served.0 (λ b some. base b some h lawful proper stands.tables.grants),
       subst (λ r. OnOk r (StandsFor (record k { grants = new }) (entry owner u ∷ h))) (sym is)
-      (granted_ok answer (StandsFor (record k { grants = new }) (entry owner u ∷ h)) (λ ok. grants_stand k new owner u h none refl unshared (λ now. refl) stands (served.1 ok))),
+          (granted_ok answer (StandsFor (record k { grants = new }) (entry owner u ∷ h)) (λ ok. grants_stand k new owner u h none refl unshared (λ now. refl) stands (served.1 ok))),
     )

@@ -1,8 +1,15 @@
 //! Calls with the answers of the written rules, one table of cases after the other.
 use super::*;
 use kernel_tables::Kernel;
-use sd_base::{Layout, Who};
+use sd_base::{Layout, Memory, Who};
+use std::alloc::Global;
 use std::test::Fail;
+
+/// A new kernel, tracked.
+fn new_tracked(alloc: Global) -> Result<Tracked, Memory> {
+    let kernel = Kernel::new(alloc)?;
+    Tracked::new(alloc, kernel)
+}
 
 /// The answer to an update, where its owner can ask for it.
 fn answer(tracked: &mut Tracked, owner: u8, update: Update) -> Option<Result<Reply, Refusal>> {
@@ -22,8 +29,7 @@ const FULL: Result<Reply, Refusal> = Err(Refusal::Full);
 
 #[test]
 fn a_line_a_lock_and_a_release(rt: HostRuntime) -> Result<(), Fail> {
-    let kernel = Kernel::new(rt.alloc())?;
-    let mut tracked = Tracked::new(rt.alloc(), kernel)?;
+    let mut tracked = new_tracked(rt.alloc())?;
     let line = Update::Line {
         line: 5,
         handler: 0,
@@ -57,8 +63,7 @@ fn a_line_a_lock_and_a_release(rt: HostRuntime) -> Result<(), Fail> {
 
 #[test]
 fn blocks_of_two_drivers(rt: HostRuntime) -> Result<(), Fail> {
-    let kernel = Kernel::new(rt.alloc())?;
-    let mut tracked = Tracked::new(rt.alloc(), kernel)?;
+    let mut tracked = new_tracked(rt.alloc())?;
     let image = Layout {
         elem: 0,
         size: 12,
@@ -158,8 +163,7 @@ fn blocks_of_two_drivers(rt: HostRuntime) -> Result<(), Fail> {
 
 #[test]
 fn ports_devices_and_parameters_of_three_owners(rt: HostRuntime) -> Result<(), Fail> {
-    let kernel = Kernel::new(rt.alloc())?;
-    let mut tracked = Tracked::new(rt.alloc(), kernel)?;
+    let mut tracked = new_tracked(rt.alloc())?;
     let calls = [
         (1, Update::Ports { base: 16, n: 4 }, DONE),
         (2, Update::Ports { base: 18, n: 1 }, BUSY),
@@ -204,8 +208,7 @@ fn ports_devices_and_parameters_of_three_owners(rt: HostRuntime) -> Result<(), F
 
 #[test]
 fn timers_and_the_clock(rt: HostRuntime) -> Result<(), Fail> {
-    let kernel = Kernel::new(rt.alloc())?;
-    let mut tracked = Tracked::new(rt.alloc(), kernel)?;
+    let mut tracked = new_tracked(rt.alloc())?;
     let calls = [
         (
             1,
@@ -265,8 +268,7 @@ fn timers_and_the_clock(rt: HostRuntime) -> Result<(), Fail> {
 
 #[test]
 fn locks_masks_holds_and_work_of_three_owners(rt: HostRuntime) -> Result<(), Fail> {
-    let kernel = Kernel::new(rt.alloc())?;
-    let mut tracked = Tracked::new(rt.alloc(), kernel)?;
+    let mut tracked = new_tracked(rt.alloc())?;
     let holder = Who { owner: 1, task: 1 };
     let calls = [
         (1, Update::Lock { lock: 3, task: 1 }, DONE),
@@ -307,8 +309,7 @@ fn locks_masks_holds_and_work_of_three_owners(rt: HostRuntime) -> Result<(), Fai
 
 #[test]
 fn caps_at_their_values_and_one_past(rt: HostRuntime) -> Result<(), Fail> {
-    let kernel = Kernel::new(rt.alloc())?;
-    let mut tracked = Tracked::new(rt.alloc(), kernel)?;
+    let mut tracked = new_tracked(rt.alloc())?;
     for i in 0..32 {
         assert_eq!(rt;
             answer(&mut tracked, 1, Update::Device { id: i }),

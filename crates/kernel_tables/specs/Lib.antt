@@ -1,1 +1,4 @@
 pub mod Standing
+pub mod Places
+pub mod TableRows
+pub mod KernelRows

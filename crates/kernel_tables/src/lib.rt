@@ -4,5 +4,12 @@
 #![tactic(auto)]
 
 mod kernel;
+mod row;
+mod rows;
 
 pub use kernel::Kernel;
+pub use row::Row;
+pub use sd_base::BlockState;
+
+#[cfg(test)]
+mod tests;

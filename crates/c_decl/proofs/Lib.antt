@@ -3,6 +3,8 @@ pub mod BeginningOf
 pub mod ItemWalks
 pub mod LongestAction
 pub mod LongestDeclaration
+pub mod LongestParam
+pub mod LongestStatement
 pub mod LongestStruct
 pub mod Loops
 pub mod NamesAlone

@@ -4,6 +4,7 @@ pub mod ItemWalks
 pub mod LongestAction
 pub mod LongestDeclaration
 pub mod LongestParam
+pub mod LongestStart
 pub mod LongestStatement
 pub mod LongestStruct
 pub mod Loops

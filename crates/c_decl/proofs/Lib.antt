@@ -3,6 +3,7 @@ pub mod BeginningOf
 pub mod ItemWalks
 pub mod LongestAction
 pub mod LongestDeclaration
+pub mod LongestItem
 pub mod LongestParam
 pub mod LongestStart
 pub mod LongestStatement

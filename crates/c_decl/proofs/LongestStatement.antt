@@ -148,7 +148,7 @@ single_covers w u s best v x t d e = by (best.covers v t d)
 pub body_single : (w u : List Token) (s : Simple) → Lacks w (word.Sign sign.BraceOpen) → Best (SimpleAt w) Never (Some (s, u)) → Best (BodyAt w) Never (Some (body.Single s, u))
 body_single w u s none best = record { sound = single best.sound; covers = λ v x d. let p = unbraced w v x none d in single_covers w u s best v x p.0 p.1 p.2 }
 
-in_statements_close : (q u : List Token) → Begins q (word.Sign sign.BraceClose) u → At is_in_statements q → ⊥
+pub in_statements_close : (q u : List Token) → Begins q (word.Sign sign.BraceClose) u → At is_in_statements q → ⊥
 in_statements_close q u b g = let clash = in_class is_in_statements q b g in cc
 
 abbrev Braced : List Token → List Token → Body → Type 0

@@ -1,2 +1,5 @@
 pub mod GrammarExamples
+pub mod ShortFunctions
+pub mod ShortParts
+pub mod StatementForms
 pub mod WordExamples

@@ -1,9 +1,15 @@
+pub mod Apart
+pub mod BeginningOf
 pub mod ItemWalks
+pub mod LongestAction
+pub mod LongestDeclaration
+pub mod NamesAlone
 pub mod OneAction
 pub mod OneDeclaration
 pub mod OneItem
 pub mod OneStatement
 pub mod Only
+pub mod Sequences
 pub mod ShortUnits
 pub mod StatementWalks
 pub mod Walks

@@ -1,4 +1,5 @@
 pub mod Actions
+pub mod Arguments
 pub mod Beginnings
 pub mod Classes
 pub mod Constants

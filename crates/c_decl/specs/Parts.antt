@@ -2,6 +2,7 @@
 use Rattle.std.specs.Prelude.{ℕ, List, ◌∷◌, Option, None, Some, Bool}
 use Rattle.c_tree.specs.declared.expressions.Expr.{Expr}
 use Rattle.c_tree.specs.declared.items.Arm.{Arm}
+use Rattle.c_tree.specs.declared.items.Const.{Const}
 use Rattle.c_tree.specs.declared.items.Declaration.{Declaration}
 use Rattle.c_tree.specs.declared.items.Field.{Field}
 use Rattle.c_tree.specs.declared.items.Field.TheVariants as field
@@ -15,10 +16,11 @@ use Rattle.c_tree.specs.declared.types.TypeName.{TypeName}
 use Rattle.c_tree.specs.declared.words.Token.{Token}
 use Rattle.c_tree.specs.declared.words.Word.TheVariants as word
 use Rattle.c_tree.specs.ExpressionGrammar.{Closed}
-use Rattle.c_tree.specs.ItemGrammar.{ArmAt, DeclarationAt, FieldAt, ParamAt, MoreParamAt, ParamsAt}
+use Rattle.c_tree.specs.ItemGrammar.{ConstAt, ArmAt, DeclarationAt, FieldAt, ParamAt, MoreParamAt, ParamsAt}
 use Rattle.c_tree.specs.Reading.{Begins, Each}
-use Rattle.c_tree.specs.StatementGrammar.{BodyAt}
+use Rattle.c_tree.specs.StatementGrammar.{Ends, BodyAt}
 use Rattle.c_tree.specs.TypeGrammar.{TypeNameAt}
+use Rattle.c_decl.specs.declared.constants.Case.{Case}
 use Rattle.c_decl.specs.declared.declarations.Typed.{Typed}
 use Rattle.c_decl.specs.declared.params.Params.{Params}
 use Rattle.c_decl.specs.Sequences.{Then, Before, Ended, Given, Many}
@@ -30,6 +32,11 @@ NameAt w v n = Begins w (word.Name n) v
 -- Base Stars NAME.
 pub data TypedAt : List Token → List Token → Typed → Type 0 where
   typed : {w u v : List Token} {t : TypeName} {n : List ℕ} → TypeNameAt w u t → Begins u (word.Name n) v → TypedAt w v (record { type_name = t; name = n })
+
+-- 'when' '(' NAME '==' Const ')' ';'.
+pub data CaseAt : List Token → List Token → Case → Type 0 where
+  case : {b c d e f g h v : List Token} {m : List ℕ} {k : Const} → Begins b (word.Keyword keyword.When) c → Begins c (word.Sign sign.ParenOpen) d → Begins d (word.Name m) e
+      → Begins e (word.Sign sign.Equal) f → ConstAt f g k → Begins g (word.Sign sign.ParenClose) h → Ends h v → CaseAt b v (record { tag = m; value = k })
 
 -- A declared object and ';'.
 abbrev pub PlainAt : List Token → List Token → Declaration → Type 0

@@ -30,9 +30,10 @@ pub fn typed_at(alloc: Global, words: &[Token]) -> Result<Option<(Typed, &[Token
     let Some((type_name, after_type)) = type_name_at(alloc, words)? else {
         return Ok(None);
     };
-    let Some((name, rest)) = name_at(after_type) else {
+    let Some(named) = name_at(after_type) else {
         return Ok(None);
     };
+    let (name, rest) = named;
     Ok(Some((Typed { type_name, name }, rest)))
 }
 

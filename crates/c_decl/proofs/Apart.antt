@@ -6,10 +6,10 @@ use Rattle.c_tree.specs.declared.signs.Sign.TheVariants as sign
 use Rattle.c_tree.specs.declared.words.Token.{Token}
 use Rattle.c_tree.specs.declared.words.Word.TheVariants as word
 use Rattle.c_tree.specs.Reading.{Begins}
-use Rattle.c_expr.specs.Classes.{At, is_in_types}
+use Rattle.c_expr.specs.Classes.{At, is_base, is_in_types}
 use Rattle.c_expr.specs.Strength.{front_strength, strength_at, sign_strength, Tighter}
 use Rattle.c_expr.proofs.Begins.{in_class}
-use Rattle.c_decl.specs.Classes.{is_bracket, is_assign, is_comma, is_else, is_in_statements}
+use Rattle.c_decl.specs.Classes.{is_bracket, is_assign, is_comma, is_field, is_in_statements}
 
 -- no row goes on at a sign that binds nothing
 pub loose : (s : Sign) (l : ℕ) → sign_strength s ≡ 0 → (q u : List Token) → Begins q (word.Sign s) u → Tighter l q → ⊥
@@ -32,3 +32,9 @@ assign_end q u b g = let clash = in_class is_assign q b g in cc
 
 pub comma_close : (q u : List Token) → Begins q (word.Sign sign.ParenClose) u → At is_comma q → ⊥
 comma_close q u b g = let clash = in_class is_comma q b g in cc
+
+pub base_close : (q u : List Token) → Begins q (word.Sign sign.BraceClose) u → At is_base q → ⊥
+base_close q u b g = let clash = in_class is_base q b g in cc
+
+pub field_close : (q u : List Token) → Begins q (word.Sign sign.BraceClose) u → At is_field q → ⊥
+field_close q u b g = let clash = in_class is_field q b g in cc

@@ -43,11 +43,11 @@ declaration_calm : {w v : List Token} {d : Declaration} → DeclarationAt w v d 
 declaration_calm (declaration d b e) = calm_both (calm_type d) (calm_both (calm_word b refl) (size_calm e))
 
 -- ---- structs
-arm_piece : {w v : List Token} {a : Arm} → ArmAt w v a → Piece w v (arm_words a)
+pub arm_piece : {w v : List Token} {a : Arm} → ArmAt w v a → Piece w v (arm_words a)
 arm_piece (arm d b c e f g h i j) =
     led (calm_type d) (led (calm_word b refl) (led (calm_word c refl) (led (calm_both (calm_word e refl) (calm_both (calm_both (calm_word f refl) (calm_both (calm_word g refl) (const_calm h))) (calm_word i refl))) (ended j))))
 
-field_walk : {w v : List Token} {x : Field} → FieldAt w v x → Walk w v (field_words x) (field_pieces x)
+pub field_walk : {w v : List Token} {x : Field} → FieldAt w v x → Walk w v (field_words x) (field_pieces x)
 field_walk (plain d b) = piece_walk (led (declaration_calm d) (ended b))
 field_walk (union b c d e f g h) =
     before (word_there b) (before (word_there c) (after (each_walk ArmAt arm_words (λ a. arm_words a ∷ []) (λ w v x p. piece_walk (arm_piece p)) (each_more d e)) (both (word_there f) (both (word_there g) (word_there h)))))

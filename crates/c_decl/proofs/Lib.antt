@@ -3,6 +3,8 @@ pub mod BeginningOf
 pub mod ItemWalks
 pub mod LongestAction
 pub mod LongestDeclaration
+pub mod LongestStruct
+pub mod Loops
 pub mod NamesAlone
 pub mod OneAction
 pub mod OneDeclaration

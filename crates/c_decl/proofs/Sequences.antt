@@ -1,11 +1,12 @@
 -- The longest of phrases that are made of others, from the longest of their parts.
-use Rattle.std.proofs.Common.{◌≡◌, ◌≤◌, ◌<◌, List, [], ◌∷◌, length, Option, None, Some, IfSome, refl, ap, sym, ◌∙◌, subst, inl, inr, arith}
+use Rattle.std.proofs.Common.{◌≡◌, ℕ, ◌<◌, List, length, Option, None, Some, IfSome, refl, ap, sym, ◌∙◌, subst, inl, inr, arith}
 use Rattle.c_tree.specs.declared.words.Token.{Token}
 use Rattle.c_tree.specs.declared.words.Word.{Word}
-use Rattle.c_tree.specs.Reading.{Begins, Best, Within, Covered, Never, Each, each_more}
+use Rattle.c_tree.specs.declared.words.Word.TheVariants as word
+use Rattle.c_tree.specs.Reading.{Begins, Best, Within, Covered, Never}
 use Rattle.c_expr.specs.Looking.{Lacks}
 use Rattle.c_expr.proofs.Chains.{best_none}
-use Rattle.c_decl.specs.Sequences.{Then, then, Before, before, Ended, ended, Given, given, Many, many}
+use Rattle.c_decl.specs.Sequences.{Then, then, Before, before, Ended, ended, Given, given}
 
 -- ---- a phrase behind another
 no_first : {X Z : Type 0} (A : List Token → List Token → X → Type 0) (B : X → List Token → List Token → Z → Type 0) (goes : List Token → Type 0) (w : List Token)
@@ -124,3 +125,16 @@ word_apart R apart y q v z g (before {u = u} b d) = apart q u b g
 pub end_apart : {X Z : Type 0} (f : X → Z) {goes : List Token → Type 0} {k : Word} → ((q u : List Token) → Begins q k u → goes q → ⊥)
     → (y : X) (q v : List Token) (z : Z) → goes q → Ended k (f y) q v z → ⊥
 end_apart f apart y q v z g (ended b e) = apart q _ b g
+
+-- ---- a name
+abbrev NameAt : List Token → List Token → List ℕ → Type 0
+NameAt w v n = Begins w (word.Name n) v
+
+pub name_none : (w : List Token) → ((n : List ℕ) → Lacks w (word.Name n)) → Best {X = List ℕ} (NameAt w) Never None
+name_none w lacks = best_none {X = List ℕ} (NameAt w) Never (λ v n b. lacks n v b)
+
+name_covers : (w u : List Token) (n : List ℕ) → Begins w (word.Name n) u → (v : List Token) (m : List ℕ) → NameAt w v m → Within {X = List ℕ} Never v m (n, u)
+name_covers w u n b v m c = let name : n ≡ m = cc in let same : u ≡ v = cc in inl (name, same)
+
+pub name_is : (w u : List Token) (n : List ℕ) → Begins w (word.Name n) u → Best {X = List ℕ} (NameAt w) Never (Some (n, u))
+name_is w u n b = record { sound = b; covers = name_covers w u n b }

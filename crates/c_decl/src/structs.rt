@@ -72,10 +72,13 @@ fn named_end(words: &[Token]) -> Option<(Name, &[Token])>
     ensures best { Best (λ v x. NamedEnd words.now v x) Never (option_map (λ a. (a.0, a.1.now)) result) }
     ensures shorter { IfSome result (λ a. length a.1.now < length words.now) }
 {
-    let Some((name, after_name)) = name_at(words) else {
+    let Some(named) = name_at(words) else {
         return None;
     };
-    let rest = after_sign(after_name, Sign::Semicolon)?;
+    let (name, after_name) = named;
+    let Some(rest) = after_sign(after_name, Sign::Semicolon) else {
+        return None;
+    };
     Some((name, rest))
 }
 
@@ -94,9 +97,10 @@ fn union_after(
     let Some((arms, after_arms)) = braced_arms(alloc, inside)? else {
         return Ok(None);
     };
-    let Some((name, rest)) = named_end(after_arms) else {
+    let Some(named) = named_end(after_arms) else {
         return Ok(None);
     };
+    let (name, rest) = named;
     Ok(Some((Field::Union(line, arms, name), rest)))
 }
 

@@ -1,5 +1,6 @@
 pub mod Apart
 pub mod BeginningOf
+pub mod Extended
 pub mod ItemWalks
 pub mod LongestAction
 pub mod LongestDeclaration

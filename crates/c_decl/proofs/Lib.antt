@@ -1,6 +1,7 @@
 pub mod Apart
 pub mod BeginningOf
 pub mod Ends
+pub mod Extended
 pub mod ItemWalks
 pub mod LongestAction
 pub mod LongestDeclaration

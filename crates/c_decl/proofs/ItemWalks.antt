@@ -1,5 +1,5 @@
 -- The words and the pieces of items are those of their trees.
-use Rattle.std.proofs.Common.{◌≡◌, List, [], ◌∷◌, ◌++◌, flat_map, Option, Bool, refl, ap, sym}
+use Rattle.std.proofs.Common.{List, [], ◌∷◌, ◌++◌, flat_map, Option, Bool, refl, ap, sym}
 use Rattle.c_tree.specs.declared.items.Arm.{Arm}
 use Rattle.c_tree.specs.declared.items.Const.{Const}
 use Rattle.c_tree.specs.declared.items.Declaration.{Declaration}
@@ -23,7 +23,8 @@ use Rattle.c_tree.specs.Reading.{Each, each_end, each_more, line_at}
 use Rattle.c_tree.specs.Spelling.{a_sign, stars_words}
 use Rattle.c_tree.specs.StatementSpelling.{statement_words, statement_pieces}
 use Rattle.c_tree.specs.TypeGrammar.{StarAt}
-use Rattle.c_tree.specs.UnitSpelling.{const_words, size_words, declaration_words, arm_words, field_words, struct_words, static_words, initial_words, global_words, result_words, param_words, more_params_words, params_words, written_void_words, head_words, local_words, written_statements, function_words, item_words, field_pieces, function_pieces, item_pieces}
+use Rattle.c_tree.specs.UnitSpelling.{const_words, size_words, declaration_words, arm_words, field_words, struct_words, static_words, initial_words, global_words, result_words, param_words, more_params_words, params_words, written_void_words, head_words, local_words, function_words, item_words, field_pieces, function_pieces, item_pieces}
+use Rattle.c_tree.proofs.ShortFunctions.{written_of}
 use Rattle.c_expr.proofs.Spans.{base_span, star_span, each_span}
 use Rattle.c_expr.proofs.Spelled.{base_written, stars_written}
 use Rattle.c_decl.proofs.StatementWalks.{statements_walk}
@@ -95,12 +96,6 @@ head_walk (head s r d n b p c) = before (static_calm s).passage
 local_piece : {w v : List Token} {l : Local} → LocalAt w v l → Piece w v (local_words l)
 local_piece (local d b c) = led (calm_type d) (led (calm_word b refl) (ended c))
 
--- all but the return that is added
-written_of : (ss : List Stmt) (t : Stmt) → written_statements (ss ++ t ∷ []) ≡ ss
-written_of [] t = refl
-written_of (s ∷ []) t = refl
-written_of (s ∷ r ∷ ss) t = ap (λ z. s ∷ z) (written_of (r ∷ ss) t)
-
 body_words_of : Head → List Local → List Stmt → List Word
 body_words_of h ls ss = (static_words h.is_static ++ head_words h) ++ (a_sign sign.BraceOpen ++ (flat_map local_words ls ++ (flat_map statement_words ss ++ a_sign sign.BraceClose)))
 
@@ -112,7 +107,7 @@ unfolding body_words_of body_pieces_of
 function_walk (function {d = d} {h = h} {ls = ls} {ss = ss} p b l s c) =
     let written = sym (written_of ss (added_return h (line_at d))) in
     walked_as (ap (body_words_of h ls) written) (ap (body_pieces_of h ls) written)
-        (joined (head_walk p) (before (word_there b) (joined (each_walk LocalAt local_words (λ z. local_words z ∷ []) (λ w v x q. piece_walk (local_piece q)) l) (after (statements_walk s) (word_there c)))))
+    (joined (head_walk p) (before (word_there b) (joined (each_walk LocalAt local_words (λ z. local_words z ∷ []) (λ w v x q. piece_walk (local_piece q)) l) (after (statements_walk s) (word_there c)))))
 
 -- ---- items
 pub item_walk : (w v : List Token) (x : Item) → ItemAt w v x → Walk w v (item_words x) (item_pieces x)

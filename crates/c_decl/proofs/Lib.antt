@@ -1,8 +1,14 @@
 pub mod Apart
 pub mod BeginningOf
+pub mod Ends
+pub mod Extended
 pub mod ItemWalks
 pub mod LongestAction
 pub mod LongestDeclaration
+pub mod LongestItem
+pub mod LongestParam
+pub mod LongestStart
+pub mod LongestStatement
 pub mod LongestStruct
 pub mod Loops
 pub mod NamesAlone

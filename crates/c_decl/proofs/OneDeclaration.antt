@@ -81,7 +81,7 @@ head_same : (l : ℕ) (s s' : Bool) (r r' : ResultBase) (ss ss' : List Star) (n 
     → a_head l s r ss n b ps ≡ a_head l s' r' ss' n' b' ps'
 head_same l s s' r r' ss ss' n n' b b' ps ps' d e f g h i =
     ap (λ z. a_head l z r ss n b ps) d ∙ ap (λ z. a_head l s' z ss n b ps) e ∙ ap (λ z. a_head l s' r' z n b ps) f ∙ ap (λ z. a_head l s' r' ss' z b ps) g ∙ ap (λ z. a_head l s' r' ss' n' z ps) h
-        ∙ ap (λ z. a_head l s' r' ss' n' b' z) i
+    ∙ ap (λ z. a_head l s' r' ss' n' b' z) i
 
 -- ---- constants
 pub const_only : (w : List Token) → Only ConstAt w
@@ -159,7 +159,7 @@ field_only w v v' x x' (union {a = a} e1 e2 e3 e4 e5 e6 e7) (plain {u = u} {d = 
 field_only w v v' x x' (union {b = b} {d = d} {x = y} {xs = ys} {n = n} d1 d2 d3 d4 d5 d6 d7) (union {b = b'} {c = c'} {d = d'} {x = y'} {xs = ys'} {n = n'} e1 e2 e3 e4 e5 e6 e7) =
     let here : b' ≡ b = cc in
     let arms = each_only ArmAt arm_only (each_more d3 d4) (subst (λ q. Each ArmAt q d' (y' ∷ ys')) here (each_more e3 e4))
-        (λ u z r. outside is_base d _ (word.Sign sign.BraceClose) (arm_first d u z r) d5 refl) (λ u z r. outside is_base d' _ (word.Sign sign.BraceClose) (arm_first d' u z r) e5 refl) in
+    (λ u z r. outside is_base d _ (word.Sign sign.BraceClose) (arm_first d u z r) d5 refl) (λ u z r. outside is_base d' _ (word.Sign sign.BraceClose) (arm_first d' u z r) e5 refl) in
     let there : d ≡ d' = arms.1 in
     let name : n ≡ n' = cc in
     (union_same (line_at w) (y ∷ ys) (y' ∷ ys') n n' arms.0 name, cc)

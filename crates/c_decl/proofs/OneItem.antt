@@ -119,7 +119,16 @@ record Led (w : List Token) (k : Word) : Type 0 where
 
 head_led : (w v : List Token) (h : Head) → HeadAt w v h → Led w (word.Sign sign.ParenOpen)
 head_led w v h (head {c = c} {d = d} {e = e} {s = s} {r = r} {ss = ss} {n = n} d1 d2 d3 d4 d5 d6 d7) = record {
-  behind = c; is_static = s; result = r; stars = ss; leads = lead d1 d2 d3; name = n; after = d; named = d4; last = e; next = d5;
+  behind = c;
+  is_static = s;
+  result = r;
+  stars = ss;
+  leads = lead d1 d2 d3;
+  name = n;
+  after = d;
+  named = d4;
+  last = e;
+  next = d5;
 }
 
 after_name : (r b c v : List Token) (s : Option Number) (i : Option Const) → SizeAt r b s → ValueAt b c i → Ends c v → (k : Word) × (u : List Token) × Begins r k u × (k ≡ word.Sign sign.ParenOpen → ⊥)
@@ -129,10 +138,22 @@ after_name r b c v s i (array {u = u} d f g) h e = (word.Sign sign.BracketOpen, 
 
 global_led : (w v : List Token) (g : GlobalItem) → GlobalAt w v g → (k : Word) × Led w k × (k ≡ word.Sign sign.ParenOpen → ⊥)
 global_led w v g (global {a = a} {b = b} {c = c} {s = s} {i = i} d1 (declaration {u = u} {r = r} {t = t} {n = n} {s = z} e1 e2 e3) d3 d4) =
-    let next = after_name r b c v z i e3 d3 d4 in
-    (next.0, record {
-      behind = u; is_static = s; result = result.Base t.base; stars = t.stars; leads = global_lead w a u s t d1 e1; name = n; after = r; named = e2; last = next.1; next = next.2;
-    }, next.3)
+    let next = after_name r b c v z i e3 d3 d4 in (
+      next.0,
+      record {
+        behind = u;
+        is_static = s;
+        result = result.Base t.base;
+        stars = t.stars;
+        leads = global_lead w a u s t d1 e1;
+        name = n;
+        after = r;
+        named = e2;
+        last = next.1;
+        next = next.2;
+      },
+      next.3,
+    )
 
 led_same : (w : List Token) (k j : Word) → Led w k → Led w j → k ≡ j
 led_same w k j p q =

@@ -61,8 +61,9 @@ abbrev pub DeclaredAt : Bool → List Token → List Token → Start → Type 0
 DeclaredAt s = Then ResultAt (λ r. Then (Each StarAt) (λ ss. Then NameAt (λ n. Given (record { is_static = s; result = r; stars = ss; name = n }))))
 
 -- ['static'] (Base | 'void') Stars NAME.
-abbrev pub StartAt : List Token → List Token → Start → Type 0
-StartAt = Then StaticAt (λ s. DeclaredAt s)
+pub data StartAt : List Token → List Token → Start → Type 0 where
+  start : {w a b c v : List Token} {s : Bool} {r : ResultBase} {ss : List Star} {n : List ℕ} → StaticAt w a s → ResultAt a b r → Each StarAt b c ss → Begins c (word.Name n) v
+      → StartAt w v (record { is_static = s; result = r; stars = ss; name = n })
 
 -- The head of a function with this start and these parameters.
 abbrev pub head_with : ℕ → Start → Params → Head

@@ -76,9 +76,10 @@ fn declared_at(
         return Ok(None);
     };
     let (stars, after_stars) = stars_at(alloc, after_result)?;
-    let Some((name, rest)) = name_at(after_stars) else {
+    let Some(named) = name_at(after_stars) else {
         return Ok(None);
     };
+    let (name, rest) = named;
     let start = Start {
         is_static,
         result: base,
@@ -152,7 +153,8 @@ fn body_after(
         return Ok(None);
     };
     let end = line_of(closing);
-    body.push(added_return(alloc, &head, end)?)?;
+    let added = added_return(alloc, &head, end)?;
+    body.push(added)?;
     let function = Function {
         head,
         locals,

@@ -22,7 +22,8 @@ pub fn item_at(alloc: Global, words: &[Token]) -> Result<Option<(Item, &[Token])
     ensures shorter { IfOk result (λ found. IfSome found (λ a. length a.1.now < length words.now)) }
 {
     let line = line_of(words);
-    if let Some((name, inside)) = struct_opened(words) {
+    if let Some(opened) = struct_opened(words) {
+        let (name, inside) = opened;
         let found = struct_after(alloc, line, name, inside)?;
         return Ok(found);
     }
@@ -43,9 +44,10 @@ fn struct_opened(words: &[Token]) -> Option<(Name, &[Token])>
     ensures shorter { IfSome result (λ a. length a.1.now < length words.now) }
 {
     let after_struct = after_keyword(words, Keyword::Struct)?;
-    let Some((name, after_name)) = name_at(after_struct) else {
+    let Some(named) = name_at(after_struct) else {
         return None;
     };
+    let (name, after_name) = named;
     let inside = after_sign(after_name, Sign::BraceOpen)?;
     Some((name, inside))
 }

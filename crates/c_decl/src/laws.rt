@@ -1,5 +1,5 @@
 //! What holds of the grammar of statements, items and whole texts, whatever is read.
-ghost use Rattle.std.specs.Prelude.{◌≡◌, ℕ, List};
+ghost use Rattle.std.specs.Prelude.{◌≡◌, ℕ, List, [], ◌++◌};
 ghost use Rattle.c_tree.specs.declared.items.Item.{Item};
 ghost use Rattle.c_tree.specs.declared.items.Unit.{Unit as TextUnit};
 ghost use Rattle.c_tree.specs.declared.keywords.Keyword.TheVariants as keyword;
@@ -19,9 +19,12 @@ pub fn one_statement()
     ensures statements { (w v u : List Token) (x y : Stmt) → StmtAt w v x → StmtAt w u y → Lacks v (word.Keyword keyword.Else) → Lacks u (word.Keyword keyword.Else) → (x ≡ y) × (v ≡ u) }
 {}
 
-/// Two items that begin at one place are one and end at one place: no item is a proper prefix of another.
+/// Two items that begin at one place are one and end at one place. Words that are an item begin with it whatever stands
+/// after them. So no item is a proper prefix of another.
 pub fn one_item()
-    ensures { (w v u : List Token) (x y : Item) → ItemAt w v x → ItemAt w u y → (x ≡ y) × (v ≡ u) }
+    ensures places { (w v u : List Token) (x y : Item) → ItemAt w v x → ItemAt w u y → (x ≡ y) × (v ≡ u) }
+    ensures stands { (s r : List Token) (x : Item) → ItemAt s [] x → ItemAt (s ++ r) r x }
+    ensures prefix { (s r : List Token) (x y : Item) → ItemAt s [] x → ItemAt (s ++ r) [] y → r ≡ [] }
 {}
 
 /// A text is at most one unit, and so is a list of words. It is one, or there is a place at which no item begins, on one

@@ -12,6 +12,7 @@ pub mod Reading
 pub mod Short
 pub mod ShortUnit
 pub mod Signs
+pub mod Slots
 pub mod Spelling
 pub mod StatementGrammar
 pub mod StatementSpelling

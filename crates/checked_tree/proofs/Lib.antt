@@ -1,6 +1,7 @@
 pub mod Equations
 pub mod Outcomes
 pub mod FormValues
+pub mod CodeLaws
 mod Sample
 mod ExpressionExamples
 mod ConditionExamples

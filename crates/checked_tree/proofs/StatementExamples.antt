@@ -5,6 +5,7 @@ use Rattle.sd_base.specs.declared.kinds.FailKind.TheVariants as fail
 use Rattle.checked_tree.specs.declared.stops.Stop.TheVariants.{Failed, Wild}
 use Rattle.checked_tree.specs.declared.shapes.Scalar.TheVariants.{U8, I8, I32, Pointer}
 use Rattle.checked_tree.specs.declared.kernel.KernelName.TheVariants as kernel
+use Rattle.checked_tree.specs.declared.sums.Part.TheVariants.{Atom}
 use Rattle.checked_tree.specs.declared.sums.Sum.{Sum}
 use Rattle.checked_tree.specs.declared.expressions.CheckedExpr.{CheckedExpr}
 use Rattle.checked_tree.specs.declared.expressions.CheckedExpr.TheVariants as V
@@ -50,7 +51,7 @@ place = V.Through (V.Local 1) []
 
 -- the sum that a local alone is
 abbrev of_slot : ℕ → Sum
-of_slot slot = record { parts = record { times = pos 1; atom = V.Local slot } ∷ []; constant = pos 0 }
+of_slot slot = record { parts = Atom (pos 1) (V.Local slot) ∷ [] }
 
 -- the pointer, with its hidden bounds
 abbrev bounded_pointer : CheckedExpr → PointerOperand

@@ -1,7 +1,7 @@
 -- The flow graph of a function: its checks, its assignments of locals and its branches, in the order in which control meets them.
 --
 -- A node is a place in the flow of one statement, with the statements that are to do on either side. Walks go from node to node.
-use Rattle.std.specs.Prelude.{ℕ, ◌+◌, ◌≡◌, ◌==◌, Bool, true, false, not, ◌&&◌, ◌||◌, List, [], ◌∷◌, ℤ, pos, negsuc, neg_ℤ, int_le, Option, Some, None, slice_get, if◌then◌else◌, Contains}
+use Rattle.std.specs.Prelude.{ℕ, ◌+◌, ◌≡◌, ◌==◌, Bool, true, false, not, ◌&&◌, ◌||◌, List, [], ◌∷◌, ℤ, pos, negsuc, int_le, Option, Some, None, slice_get, if◌then◌else◌, Contains}
 use Rattle.dep_expr.specs.Linear.{LinearForm, number_form, term_form, plus, scaled}
 use Rattle.checked_tree.specs.declared.shapes.Scalar.{Scalar}
 use Rattle.checked_tree.specs.declared.shapes.Scalar.TheVariants.{Void, U8, I8, U16, I16, I32, U32, Pointer}
@@ -25,7 +25,6 @@ use Rattle.checked_tree.specs.declared.statements.PointerOperand.{PointerOperand
 use Rattle.checked_tree.specs.declared.statements.CheckedStmt.{CheckedStmt, out-CheckedStmt}
 use Rattle.checked_tree.specs.declared.statements.CheckedStmt.TheOpen as S
 use Rattle.checked_tree.specs.declared.units.CheckedFn.{CheckedFn}
-use Rattle.checked_tree.specs.Numbers.{converted}
 use Rattle.checked_tree.specs.Step.{picked}
 
 -- what a walk meets

@@ -7,6 +7,7 @@ pub mod Operands
 pub mod Act
 pub mod Step
 pub mod Bare
+pub mod Codes
 pub mod Ranges
 pub mod Edges
 pub mod Flow

@@ -6,6 +6,7 @@ use Rattle.checked_tree.specs.declared.stops.Stop.TheVariants.{Wild}
 use Rattle.checked_tree.specs.declared.shapes.Scalar.{Scalar}
 use Rattle.checked_tree.specs.declared.shapes.Scalar.TheVariants.{Void, U8, I8, U16, I16, I32, U32, Pointer}
 use Rattle.checked_tree.specs.declared.sums.Part.{Part}
+use Rattle.checked_tree.specs.declared.sums.Part.TheVariants.{Constant, Atom}
 use Rattle.checked_tree.specs.declared.sums.Sum.{Sum}
 use Rattle.checked_tree.specs.declared.statements.PointerOperand.{PointerOperand}
 use Rattle.checked_tree.specs.declared.statements.Argument.{Argument}
@@ -15,14 +16,19 @@ use Rattle.checked_tree.specs.Numbers.{converted, is_word}
 use Rattle.checked_tree.specs.Conditions.{State, peek}
 use Rattle.checked_tree.specs.Eval.{Keep, eval}
 
+-- the value of a part; an expression is evaluated without its checks
+abbrev pub part_value : State → Part → Got
+part_value s (Constant times value) = Ok (times *ℤ value)
+part_value s (Atom times atom) = peek s atom >>= λ v. Ok (times *ℤ v)
+
 -- a sum so far, and the parts still to add
 abbrev pub parts_from : State → List Part → ℤ → Got
 parts_from s [] sum = Ok sum
-parts_from s (p ∷ ps) sum = peek s p.atom >>= λ v. parts_from s ps (sum +ℤ (p.times *ℤ v))
+parts_from s (p ∷ ps) sum = part_value s p >>= λ v. parts_from s ps (sum +ℤ v)
 
--- the value of a sum over expressions, which are evaluated without their checks
+-- the value of a sum over expressions
 unfoldable pub sum_value : State → Sum → Got
-sum_value s l = parts_from s l.parts l.constant
+sum_value s l = parts_from s l.parts (pos 0)
 
 -- the null pointer, with its bounds
 abbrev pub null : Fat

@@ -90,20 +90,20 @@ pub enum CheckedExpr {
     /// The place `*e`, and of a nullterm `e` also `e[0]`.
     Through {
         pointer: Boxed<CheckedExpr>,
-        checks: Items<u32>,
+        checks: Items<usize>,
     },
     /// The place `e[i]` of an element of `size` bytes.
     Element {
         pointer: Boxed<CheckedExpr>,
         index: Boxed<CheckedExpr>,
         size: u32,
-        checks: Items<u32>,
+        checks: Items<usize>,
     },
     /// The place of a field, an arm or a union of a struct place.
     Field {
         place: Boxed<CheckedExpr>,
         offset: u32,
-        checks: Items<u32>,
+        checks: Items<usize>,
     },
     /// The value of a place of this type.
     Load {
@@ -120,7 +120,7 @@ pub enum CheckedExpr {
         pointer: Boxed<CheckedExpr>,
         by: Boxed<CheckedExpr>,
         size: u32,
-        checks: Items<u32>,
+        checks: Items<usize>,
     },
     /// A number from one other: in this type, or converted to it.
     Unary {
@@ -134,7 +134,7 @@ pub enum CheckedExpr {
         scalar: Scalar,
         left: Boxed<CheckedExpr>,
         right: Boxed<CheckedExpr>,
-        checks: Items<u32>,
+        checks: Items<usize>,
     },
     /// 0 or 1, where both sides are converted to this type; two pointers are compared as they are.
     Compare {

@@ -7,6 +7,7 @@
 
 mod bare_forms;
 mod checks;
+mod codes;
 mod expressions;
 mod kernel;
 mod shapes;
@@ -17,6 +18,7 @@ mod units;
 
 pub use bare_forms::bare;
 pub use checks::{Check, Cond};
+pub use codes::code;
 pub use expressions::{Arithmetic, CheckedExpr, Comparison, Logic, PointerSum, Unary};
 pub use kernel::{Answer, KernelCall, KernelName};
 pub use shapes::{Bounds, Edge, Member, Scalar, Shape, StructShape, UnionShape};

@@ -2,7 +2,7 @@
 use sqlite_items::Items;
 
 /// A type of which one value is a number: the integer types, and a pointer whose annotation is constant.
-#[derive(Clone, Copy, PartialEq, Eq, Debug)]
+#[derive(Clone, Copy, PartialEq, Eq, Hash, Debug)]
 pub enum Scalar {
     /// No value: the result of a `void` function.
     Void,

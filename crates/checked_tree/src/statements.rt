@@ -44,7 +44,7 @@ pub enum CheckedStmt {
         slot: u32,
         scalar: Scalar,
         value: Boxed<CheckedExpr>,
-        checks: Items<u32>,
+        checks: Items<usize>,
     },
     /// `l = e` for a pointer local whose bounds lie in two hidden slots, the first of them this one.
     AssignAutomatic {
@@ -59,7 +59,7 @@ pub enum CheckedStmt {
         scalar: Scalar,
         place: Boxed<CheckedExpr>,
         value: Boxed<CheckedExpr>,
-        checks: Items<u32>,
+        checks: Items<usize>,
     },
     /// `zero(l)`: the `size` bytes of the place become 0.
     Zero {
@@ -73,7 +73,7 @@ pub enum CheckedStmt {
         target: Option<Target>,
         function: u32,
         arguments: Items<Argument>,
-        checks: Items<u32>,
+        checks: Items<usize>,
     },
     /// A kernel call: its numbers, its pointer, and its handler, element and size, 0 where it has none.
     Kernel {
@@ -90,7 +90,7 @@ pub enum CheckedStmt {
     Return {
         line: u32,
         value: Option<Argument>,
-        checks: Items<u32>,
+        checks: Items<usize>,
     },
     /// `if`, with its branches.
     If {

@@ -6,3 +6,5 @@ pub mod Owned
 pub mod PartKept
 pub mod Rules
 pub mod Serves
+pub mod Latest
+pub mod Wide

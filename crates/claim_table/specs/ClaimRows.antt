@@ -33,6 +33,10 @@ is_not_range_claim owner base n c = not (eqb c.owner owner && (eqb c.number base
 abbrev pub covers : ℕ → ℤ → Claim ℕ → Bool
 covers owner port c = eqb c.owner owner && (not (int_lt port (pos c.number)) && int_lt port (pos (c.number + c.detail)))
 
+-- a range with more ports than there are
+abbrev pub is_wide : Claim ℕ → Bool
+is_wide c = ltb 65536 c.detail
+
 -- the caps: one holder for each of 64 lines, and 32 ranges, devices and parameters for each of 5 owners
 pub record HasCaps (t : ClaimRows) : Type 0 where
   pub lines : FewOfEach (λ c. c.number) 64 1 t.lines

@@ -35,6 +35,11 @@ module _ {D : Type 0} where
   last_of_each [] = []
   last_of_each (x ∷ xs) = cond (list_any (has_number x.number) xs) (last_of_each xs) (x ∷ last_of_each xs)
 
+  -- the first claim has this number
+  abbrev pub begins_with : ℕ → List (Claim D) → Bool
+  begins_with number [] = false
+  begins_with number (c ∷ cs) = has_number number c
+
   -- no later claim has a smaller number
   abbrev pub IsOrdered : List (Claim D) → Type 0
   IsOrdered [] = Unit {0}

@@ -1,15 +1,18 @@
 //! The table of lines, ports, devices and parameters.
-ghost use Rattle.std.specs.Prelude.{◌≡◌, ◌+◌, ◌≤◌, true, IfOk, OnOk, OnErr, slice_get};
+ghost use Rattle.std.specs.Prelude.{◌≡◌, ◌+◌, ◌≤◌, true, false, IfOk, OnOk, OnErr, slice_get};
 ghost use Rattle.std.specs.List.{list_any};
 ghost use Rattle.sd_base.specs.declared.history.Update.TheVariants.{Line, FreeLine, Ports, DropPorts, Device, DelDevice, Param, ClearParam};
 ghost use Rattle.sd_base.specs.History.{line_key, ports_key, device_key, param_key};
 ghost use Rattle.sd_base.specs.Part.{Serves, Loses, Forgets};
-ghost use Rattle.claim_table.specs.ClaimRows.{no_claims, covers};
+ghost use Rattle.claim_table.specs.Ordered.{last_of_each};
+ghost use Rattle.claim_table.specs.ClaimRows.{no_claims, is_wide, covers};
 ghost use Rattle.claim_table.specs.ClaimCalls.{if_held, line_answer, with_line, holds_line, without_line, ports_answer, with_ports, holds_ports, without_ports, device_answer, with_device, holds_device, without_device, param_answer, with_param, holds_param, without_param, without_owner, param_value, line_holder};
 ghost use Rattle.claim_table.specs.ClaimPart.{HoldsClaims, refused_as, OfEachHistory, holders_of, holds_port, values_of};
 
 use crate::Claim;
 use crate::claim::port_range;
+use crate::params::Params;
+use crate::ranges::Ranges;
 use crate::rows::{
     Rows, count_of, has_claim, has_number, has_port, has_range, latest, meets_range, nth_of,
 };
@@ -50,9 +53,9 @@ const PARAMETER_KEYS: u16 = 256;
 #[derive(Drop)]
 pub struct Claims {
     lines: Rows<u32>,
-    ports: Rows<u32>,
+    ports: Ranges,
     devices: Rows<()>,
-    params: Rows<i32>,
+    params: Params,
 }
 
 impl Model for Claims {
@@ -72,9 +75,9 @@ impl Claims {
     {
         Ok(Claims {
             lines: Rows::new(alloc)?,
-            ports: Rows::new(alloc)?,
+            ports: Ranges::new(alloc)?,
             devices: Rows::new(alloc)?,
-            params: Rows::new(alloc)?,
+            params: Params::new(alloc)?,
         })
     }
 
@@ -290,9 +293,10 @@ impl Claims {
         self.lines.as_slice()
     }
 
-    /// The ranges of ports that are held, by their first ports, each with how many it has.
+    /// The ranges of ports that are held, by their first ports, each with how many it has, at most 65,536.
     pub fn ports(&self) -> &[Claim<u32>]
-        ensures { result.now ≡ self.now.ports }
+        ensures value { result.now ≡ self.now.ports }
+        ensures narrow { list_any is_wide self.now.ports ≡ false }
     {
         self.ports.as_slice()
     }
@@ -309,6 +313,13 @@ impl Claims {
         ensures { result.now ≡ self.now.params }
     {
         self.params.as_slice()
+    }
+
+    /// Of each parameter that has one the value that was set last, in order.
+    pub fn latest_params(&self) -> &[Claim<i32>]
+        ensures { result.now ≡ last_of_each self.now.params }
+    {
+        self.params.latest()
     }
 
     /// Takes away the line that an owner holds.

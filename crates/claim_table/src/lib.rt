@@ -6,6 +6,8 @@
 
 mod claim;
 mod claims;
+mod params;
+mod ranges;
 mod rows;
 
 pub use claim::Claim;

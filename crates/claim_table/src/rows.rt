@@ -1,8 +1,8 @@
 //! Claims of one kind in the order of their numbers, in storage that is taken when they are made.
-ghost use Rattle.std.specs.Prelude.{◌≡◌, ◌<◌, [], List, length, IfOk, slice_get};
+ghost use Rattle.std.specs.Prelude.{◌≡◌, ◌<◌, ◌≤◌, [], List, length, IfOk, slice_get};
 ghost use Rattle.std.specs.List.{list_any, filter, count_by};
 ghost use Rattle.sd_base.specs.Selection.{find_last};
-ghost use Rattle.claim_table.specs.Ordered.{has_number, is_owned, is_not_owned, is_claim, is_not_claim, insert_claim};
+ghost use Rattle.claim_table.specs.Ordered.{begins_with, has_number, is_owned, is_not_owned, is_claim, is_not_claim, insert_claim, last_of_each};
 ghost use Rattle.claim_table.specs.ClaimRows.{range_meets, is_range_claim, is_not_range_claim, covers};
 
 use crate::Claim;
@@ -61,6 +61,21 @@ impl<D: Copy> Rows<D> {
         let _ = self.claims.insert(place, claim);
     }
 
+    /// Holds, in place of what it held, of each number among `others` the claim that was made last.
+    pub fn take_latest(&mut self, others: &Rows<D>)
+        requires { length others.now ≤ 256 }
+        ensures { self.new ≡ last_of_each others.now }
+    {
+        self.claims.clear();
+        let claims = others.claims.as_slice();
+        for place in 0..claims.len() {
+            let claim = claims[place];
+            if !begins_with(&claims[place + 1..], claim.number) {
+                self.claims.push_reserved(claim);
+            }
+        }
+    }
+
     /// Takes away this owner's claims of this number.
     pub fn drop_claim(&mut self, owner: u8, number: u16)
         ensures { self.new ≡ filter (is_not_claim owner number) self.old }
@@ -74,6 +89,16 @@ impl<D: Copy> Rows<D> {
         ensures { self.new ≡ filter (is_not_owned owner) self.old }
     {
         self.claims.retain(|c| c.owner != owner);
+    }
+}
+
+/// Whether the first claim has this number.
+fn begins_with<D>(claims: &[Claim<D>], number: u16) -> bool
+    ensures { result ≡ begins_with number claims.now }
+{
+    match claims.first() {
+        Some(claim) => claim.number == number,
+        None => false,
     }
 }
 

@@ -1,5 +1,5 @@
 //! Worked calls, with the answers of the written rules, and each cap at its value and one past it.
-use crate::{ClaimRefusal, Claims, Holder};
+use crate::{Claim, ClaimRefusal, Claims, Holder};
 use std::test::Fail;
 
 #[test]
@@ -55,5 +55,39 @@ fn an_owner_has_32_devices_and_32_parameters(rt: HostRuntime) -> Result<(), Fail
     assert_eq!(rt; claims.get_param(31), Some(6));
     assert_eq!(rt; claims.clear_param(2, 31), Ok(()));
     assert_eq!(rt; claims.get_param(31), Some(5));
+    Ok(())
+}
+
+// Of each parameter only the value that was set last is shown, and the one before it once that is taken away.
+#[test]
+fn each_parameter_shows_its_latest_value(rt: HostRuntime) -> Result<(), Fail> {
+    let mut claims = Claims::new(rt.alloc())?;
+    for (owner, key, value) in [(1, 7, 10), (2, 7, 20), (3, 2, 30), (1, 7, 40), (2, 9, 50)] {
+        assert_eq!(rt; claims.set_param(owner, key, value), Ok(()));
+    }
+    let shown = [(3, 2, 30), (1, 7, 40), (2, 9, 50)];
+    for place in 0..3 {
+        let (owner, number, detail) = shown[place];
+        let latest = claims.latest_params().get(place).copied();
+        assert_eq!(rt;
+            latest,
+            Some(Claim {
+                owner,
+                number,
+                detail
+            })
+        );
+    }
+    assert_eq!(rt; claims.latest_params().len(), 3);
+    assert_eq!(rt; claims.clear_param(1, 7), Ok(()));
+    let latest = claims.latest_params().get(1).copied();
+    assert_eq!(rt;
+        latest,
+        Some(Claim {
+            owner: 2,
+            number: 7,
+            detail: 20
+        })
+    );
     Ok(())
 }

@@ -1,5 +1,5 @@
 //! `Lin`, a linear form: a sum of atoms with whole coefficients, plus a constant.
-ghost use Rattle.std.specs.Prelude.{◌≡◌, ℕ, ◌<◌, ◌≤◌, ◌↔◌, [], pos, ◌+ℤ◌, ◌*ℤ◌, ◌≤ℤ◌, length, IsTrue, All, IfOk, OnOk};
+ghost use Rattle.std.specs.Prelude.{◌≡◌, ℕ, ◌<◌, ◌≤◌, ◌^◌, ◌↔◌, [], pos, ◌+ℤ◌, ◌*ℤ◌, ◌≤ℤ◌, length, unsigned_abs, IsTrue, All, IfOk, OnOk};
 ghost use Rattle.dep_expr.specs.Linear.{LinearForm, Assignment, IsSmall, IsSmallThroughout, AreWords, number_form, term_form, numbers_at, with_number, value_of, plus, scaled, substituted, part_of};
 ghost use Rattle.dep_expr.specs.Merged.{AreMerged, merged};
 ghost use Rattle.dep_expr.specs.Normed.{normed};
@@ -46,6 +46,22 @@ impl Lin {
         let mut terms = SmallVec::new(alloc);
         terms.push_reserved((1, a));
         Lin { terms, constant: 0 }
+    }
+
+    /// Adds `by` times the atom `a`, as the last term. The only refusal is want of memory.
+    pub fn add_atom(&mut self, by: i64, a: usize) -> Result<(), AllocError>
+        ensures { OnOk result (self.new ≡ plus self.old (term_form (by, a))) }
+    {
+        self.terms.push((by, a))?;
+        Ok(())
+    }
+
+    /// Adds the number `c`.
+    pub fn add_number(&mut self, c: i128)
+        requires { unsigned_abs (self.old.constant +ℤ c) < 2 ^ 100 }
+        ensures { self.new ≡ plus self.old (number_form c) }
+    {
+        self.constant += c;
     }
 
     /// The sum: the terms of `other` after those of `self`, and the sum of the constants. The only refusal is want of memory.

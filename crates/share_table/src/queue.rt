@@ -53,6 +53,14 @@ impl Queue {
         })
     }
 
+    /// How many items wait.
+    pub fn len(&self) -> usize
+        ensures value { result ≡ length self.now }
+        ensures fits { result ≤ 256 }
+    {
+        self.items.len()
+    }
+
     /// How many items of an owner wait.
     fn count_of(&self, owner: u8) -> usize
         ensures { result ≡ count_by (is_owned owner) self.now }

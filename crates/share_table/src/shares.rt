@@ -183,6 +183,13 @@ impl Shares {
         self.work.get(place as usize)
     }
 
+    /// How many items wait in the queue.
+    pub fn waiting(&self) -> u32
+        ensures { result ≡ length self.now.work }
+    {
+        self.work.len() as u32
+    }
+
     /// Takes away what an activity's taking of a lock put here.
     pub fn remove_lock<L: Ledger>(&mut self, who: Who, k: i32, steps: &mut Steps<L>)
         requires { lock_at self.old.locks k ≡ Some who }

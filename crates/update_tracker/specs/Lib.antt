@@ -1,1 +1,6 @@
 pub mod NetLists
+pub mod NetRows
+pub mod NetPart
+pub mod Places
+pub mod Answered
+pub mod Tracking

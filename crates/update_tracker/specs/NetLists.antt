@@ -1,8 +1,9 @@
 -- How net lists go with a history.
-use Rattle.std.specs.Prelude.{◌≡◌, ◌≢◌, ℕ, List, [], ◌∷◌, map}
+use Rattle.std.specs.Prelude.{◌≡◌, ◌≢◌, ℕ, ◌≤◌, List, [], ◌∷◌, map, length}
 use Rattle.std.specs.List.{filter}
 use Rattle.sd_base.specs.declared.history.Update.{Update}
 use Rattle.sd_base.specs.History.{Entry, History, entry, is_owner, after_entry, live_of, net_of, Without}
+use Rattle.sd_base.specs.Allowed.{IsLawful, IsProper}
 
 -- an owner's own live entries, the newest first
 abbrev pub own_live : History → ℕ → List Entry
@@ -22,3 +23,8 @@ NetListsAfterEntry =
 -- an owner that is left out has an empty net list
 abbrev pub NothingLeftOfOwner : Type 0
 NothingLeftOfOwner = (h : History) (owner : ℕ) → net_of (Without h owner) owner ≡ []
+
+-- In a lawful history an owner has at most 9,065 entries in its net list: 4,096 blocks and as many releases, 64 lines, 32 ranges
+-- of ports, 32 devices, 32 parameters, 64 timers, 64 locks, 8 holds on each of 64 domains, 64 items of work and 9 masks.
+abbrev pub NetListsAreShort : Type 0
+NetListsAreShort = (h : History) (owner : ℕ) → IsLawful h → IsProper h → length (net_of h owner) ≤ 9065

@@ -1,19 +1,23 @@
-//! What recovery from a failed driver stands on: how the net list of an owner, its updates that none of its later ones
-//! ended, goes with the history.
-//!
-//! The tracker itself, which keeps the kernel's tables in step with a history and takes a failed driver's updates back,
-//! comes here when the tables stand together.
+//! The kernel's tables in step with a history of accepted updates, and what recovery from a failed driver stands on: of
+//! each owner a log of its updates that none of its later ones ended.
 #![tactic(auto)]
 
-ghost use Rattle.update_tracker.specs.NetLists.{NetListsAfterEntry, NothingLeftOfOwner};
+mod answers;
+mod laws;
+mod net_log;
+mod proper;
+mod requests;
+mod tracked;
+mod undo;
 
-/// The net list of an owner after one more accepted update of its own is what the update's role makes of its own live
-/// entries alone; the net lists of all others stay. So an undo log can be kept for each owner by itself.
-pub fn net_lists_after_one_more_entry()
-    ensures { NetListsAfterEntry }
-{}
+pub use laws::{
+    logs_read_as_net_lists, net_lists_after_one_more_entry, net_lists_are_short,
+    nothing_is_left_of_an_owner,
+};
+pub use proper::is_proper;
+pub use sd_base::{Refusal, Update};
+pub use tracked::Tracked;
+pub use undo::{Reply, Undo};
 
-/// A history without an owner's entries leaves nothing of the owner's net list.
-pub fn nothing_is_left_of_an_owner()
-    ensures { NothingLeftOfOwner }
-{}
+#[cfg(test)]
+mod tests;

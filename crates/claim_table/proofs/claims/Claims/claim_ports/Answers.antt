@@ -1,13 +1,16 @@
-use Rattle.std.proofs.Common.{◌≡◌, ◌<◌, eqb, count_by, Ok, Err, rules, arith, subst, sym}
+use Rattle.std.proofs.Common.{◌≡◌, ◌<◌, ◌∙◌, eqb, count_by, Ok, Err, rules, arith, subst, sym}
 use Rattle.claim_table.specs.declared.claims.ClaimRefusal.TheVariants.{Busy, Full}
 use Rattle.claim_table.specs.Ordered.{FewOfEach}
 use Rattle.claim_table.specs.ClaimCalls.{Answer, ports_answer}
 use Rattle.claim_table.proofs.Caps.{few_length, few_insert}
 use Rattle.claim_table.proofs.Serves.{ports_serve}
+use Rattle.claim_table.proofs.Wide.{range_is_narrow}
+use mir.Syntax.{w32}
+use mir.Val.{to_z, of_z}
 use Rattle.claim_table.proofs.claims.Claims.claim_ports.Goals as goal
 
 pub insert-requires : goal.insert-requires
-insert-requires c = omega (arith, few_length _ _ _ _ c.self.invariant.ports)
+insert-requires c = record { room = omega (arith, few_length _ _ _ _ c.self.invariant.ports); narrow = range_is_narrow (to_z w32 (of_z w32 c.args.base)) (to_z w32 (of_z w32 c.args.n)) c.in-Some.range (sym c.in-Some.is ∙ c.port_range.ensures) }
 
 pub invariant_of-self : goal.invariant_of-self
 invariant_of-self c = record {

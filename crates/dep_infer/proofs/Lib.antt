@@ -1,0 +1,5 @@
+pub mod Counts
+pub mod Firsts
+pub mod Names
+pub mod Slots
+pub mod Stars

@@ -1,0 +1,85 @@
+//! `LocalTable`: the slots of a function by name, and the hidden slots of its automatic pointers.
+ghost use Rattle.std.specs.Prelude.{◌≡◌, ◌<◌, ◌^◌, ◌++◌, [], ◌∷◌, length, OnOk, OnErr};
+ghost use Rattle.c_tree.specs.Slots.{slot_named, hidden_slot};
+ghost use Rattle.dep_infer.specs.Found.{NotesFirst};
+
+use indexmap::IndexMap;
+use sd_base::{Memory, Name};
+use sqlite_items::Items;
+use std::alloc::Global;
+use std::marker::Model;
+
+/// The parameters and locals of a function, each in its slot.
+#[derive(Drop)]
+pub struct LocalTable {
+    /// By slot.
+    names: Vec<Name>,
+    /// Each name with its first slot.
+    first: IndexMap<Name, u32>,
+    /// By slot: the first of its two hidden slots, if it has any.
+    hidden: Items<Option<u32>>,
+}
+
+impl Model for LocalTable {
+    ghost use Rattle.c_tree.specs.Slots.{Locals};
+    ghost use Rattle.dep_infer.specs.Found.{FindsFirst};
+
+    ghost Value = { Locals };
+
+    ghost view = { λ t. record { names = t.names.items; hidden = t.hidden } };
+
+    ghost invariant = { λ t. FindsFirst t.first.entries t.names.items };
+}
+
+impl LocalTable {
+    /// A table with no slots.
+    pub(crate) fn new(alloc: Global) -> LocalTable
+        ensures { result ≡ record { names = []; hidden = [] } }
+    {
+        LocalTable {
+            names: Vec::new(alloc),
+            first: IndexMap::new(alloc),
+            hidden: Items::new(alloc),
+        }
+    }
+
+    /// The slot of a parameter or local: the first that has this name. None where none has it.
+    #[tactic(auto, unfolding(c_tree::specs::Slots::slot_named))]
+    pub fn slot(&self, name: &Name) -> Option<u32>
+        ensures { result ≡ slot_named self.now name.now }
+    {
+        self.first.get(name).copied()
+    }
+
+    /// The first of the two hidden slots of a slot. None where the slot has none.
+    #[tactic(auto, unfolding(c_tree::specs::Slots::hidden_slot))]
+    pub fn hidden(&self, slot: u32) -> Option<u32>
+        ensures { result ≡ hidden_slot self.now slot }
+    {
+        self.hidden.get(slot as usize).copied().flatten()
+    }
+
+    /// The next slot: its name, and the first of its two hidden slots, if it has any.
+    pub(crate) fn declare(&mut self, name: &Name, hidden: Option<u32>) -> Result<(), Memory>
+        requires { length self.old.names < 2 ^ 32 }
+        ensures { OnOk result (self.new ≡ record { names = self.old.names ++ name.now ∷ []; hidden = self.old.hidden ++ hidden ∷ [] }) }
+    {
+        self.hidden.push(hidden)?;
+        self.names.reserve(1)?;
+        let slot = self.names.len() as u32;
+        note_first(&mut self.first, name, slot)?;
+        self.names.push_reserved(*name);
+        Ok(())
+    }
+}
+
+/// Notes the slot of a name, unless the name has one already.
+fn note_first(first: &mut IndexMap<Name, u32>, name: &Name, slot: u32) -> Result<(), Memory>
+    ensures ok { OnOk result (NotesFirst first.old.entries name.now slot first.new.entries) }
+    ensures err { OnErr result (first.new.entries ≡ first.old.entries) }
+{
+    if !first.contains_key(name) {
+        first.insert(*name, slot)?;
+    }
+    Ok(())
+}

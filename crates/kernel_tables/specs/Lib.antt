@@ -1,0 +1,4 @@
+pub mod Standing
+pub mod Places
+pub mod TableRows
+pub mod KernelRows

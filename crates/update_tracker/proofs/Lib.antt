@@ -1,0 +1,11 @@
+pub mod Ended
+pub mod Frames
+pub mod Serving
+pub mod FrontWork
+pub mod LogParts
+pub mod OfItems
+pub mod NetShown
+pub mod Caps
+pub mod Bounds
+pub mod Merged
+pub mod Histories

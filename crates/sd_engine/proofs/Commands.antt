@@ -75,6 +75,7 @@ module _ (mode : List ℕ) (files : List (List ℕ)) (z : CommandWords) where
       by-run : ((bytes_eq mode (codes "run") ≡ true) × (run_of files ≡ Some z)) ⊎ ((bytes_eq mode (codes "run") ≡ false) × (None ≡ Some z)) → (check_of files ≡ Some z) ⊎ (run_of files ≡ Some z)
       by-run (inl h) = inr h.1
       by-run (inr h) = cc h.1
+
       by : ((bytes_eq mode (codes "check") ≡ true) × (check_of files ≡ Some z)) ⊎ ((bytes_eq mode (codes "check") ≡ false) × (cond (bytes_eq mode (codes "run")) (run_of files) None ≡ Some z))
           → (check_of files ≡ Some z) ⊎ (run_of files ≡ Some z)
       by (inl h) = inl h.1

@@ -87,11 +87,7 @@ fn refusal_of(alloc: Global, text: &[u8], driver: usize) -> Result<Option<Refusa
 }
 
 /// Writes a line for each text, where the first of these has the number `driver`.
-fn write_accepted<K: Sink>(
-    sink: &mut K,
-    texts: &[Vec<u8>],
-    driver: usize,
-) -> Result<(), WriteFault>
+fn write_accepted<K: Sink>(sink: &mut K, texts: &[Vec<u8>], driver: usize) -> Result<(), WriteFault>
     requires { driver + length texts.now < 2 ^ 64 }
     ensures ok { OnOk result (K.written sink.new ≡ more (K.written sink.old) (accepted_lines driver (map (λ text. text.items) texts.now))) }
     ensures err { OnErr result (IsCut (K.written sink.new) (more (K.written sink.old) (accepted_lines driver (map (λ text. text.items) texts.now)))) }

@@ -48,7 +48,11 @@ fn check_command(files: &[String]) -> Option<Command<'_>>
         (check_of (map string_bytes files.now) ≡ None)
         (λ command. check_of (map string_bytes files.now) ≡ Some (meaning_of command)) }
 {
-    if 1 <= files.len() && files.len() <= MOST_DRIVERS && are_file_words(files) && all_differ(files) {
+    if 1 <= files.len()
+        && files.len() <= MOST_DRIVERS
+        && are_file_words(files)
+        && all_differ(files)
+    {
         Some(Command::Check { files })
     } else {
         None

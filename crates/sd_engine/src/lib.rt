@@ -15,3 +15,5 @@ mod top_call;
 pub use status::Status;
 pub use top_call::serve;
 
+#[cfg(test)]
+mod tests;

@@ -5,10 +5,10 @@ ghost use Rattle.sd_outside.specs.Counts.{Rose, RoseBeyond};
 ghost use Rattle.sd_engine.specs.Command.{all_differ, check_words, command_of, run_words};
 ghost use Rattle.sd_engine.specs.Serve.{IsAfterTexts, IsPossible, IsServed, IsTooLong, IsWritten, RunAnswers, Starts, Writes, WritesNothing, status_of};
 
-use crate::command::{Command, read_words};
-use crate::status::Status;
 use crate::check::{Refusal, check_texts, write_refusal};
+use crate::command::{Command, read_words};
 use crate::drivers::{Verdict, verdict_of};
+use crate::status::Status;
 use crate::texts::read_texts;
 use crate::thin_program::Statement;
 use crate::thin_run::{Stage, thin_run};

@@ -91,9 +91,9 @@ module _ (A : Type 0) (level : S.CheckedStmt-F A → A) where
   at-Assign line slot scalar value checks =
       fold_out-CheckedStmt A level (T.Assign line slot scalar value checks) ∙ ap (λ l. level (map-CheckedStmt CheckedStmt A (fold-CheckedStmt A level) l)) (T.outs-Assign line slot scalar value checks)
 
-  pub at-AssignAutomatic : (line slot hidden : ℕ) (value : PointerOperand) → fold-CheckedStmt A level (T.AssignAutomatic line slot hidden value) ≡ level (S.AssignAutomatic line slot hidden value)
-  at-AssignAutomatic line slot hidden value =
-      fold_out-CheckedStmt A level (T.AssignAutomatic line slot hidden value) ∙ ap (λ l. level (map-CheckedStmt CheckedStmt A (fold-CheckedStmt A level) l)) (T.outs-AssignAutomatic line slot hidden value)
+  pub at-AssignAutomatic : (line slot hidden : ℕ) (value : PointerOperand) (checks : List ℕ) → fold-CheckedStmt A level (T.AssignAutomatic line slot hidden value checks) ≡ level (S.AssignAutomatic line slot hidden value checks)
+  at-AssignAutomatic line slot hidden value checks =
+      fold_out-CheckedStmt A level (T.AssignAutomatic line slot hidden value checks) ∙ ap (λ l. level (map-CheckedStmt CheckedStmt A (fold-CheckedStmt A level) l)) (T.outs-AssignAutomatic line slot hidden value checks)
 
   pub at-Store : (line : ℕ) (scalar : Scalar) (place value : CheckedExpr) (checks : List ℕ) → fold-CheckedStmt A level (T.Store line scalar place value checks) ≡ level (S.Store line scalar place value checks)
   at-Store line scalar place value checks =

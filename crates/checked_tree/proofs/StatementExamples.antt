@@ -83,17 +83,22 @@ unfolding act operand sum_value bounded taken argument arguments optional_operan
 assign_no_address = simp at_forms
 
 -- an automatic local takes the bounds with the pointer
-assign_automatic : does (pos 1) (pos 16) (S.AssignAutomatic 3 1 2 (record { value = V.Moved PointerPlus (V.Local 1) (V.Local 0) 4 []; low = of_slot 1; high = of_slot 3 })) ≡ goes_on_with (pos 1 ∷ pos 20 ∷ pos 16 ∷ pos 28 ∷ [])
+assign_automatic : does (pos 1) (pos 16) (S.AssignAutomatic 3 1 2 (record { value = V.Moved PointerPlus (V.Local 1) (V.Local 0) 4 []; low = of_slot 1; high = of_slot 3 }) []) ≡ goes_on_with (pos 1 ∷ pos 20 ∷ pos 16 ∷ pos 28 ∷ [])
 unfolding act operand sum_value bounded taken argument arguments optional_operand optional_argument eval tests condition form_value peek store cleared written load read is_inside overwritten bytes_at little_endian low_bytes zeros converted unary arithmetic comparison
 assign_automatic = simp at_forms
 
+-- its checks come before it takes the pointer
+assign_automatic_fails : does (pos 0) (pos 16) (S.AssignAutomatic 3 1 2 (bounded_pointer (V.Local 1)) (3 ∷ [])) ≡ Err (Failed 7 (fail.Check kind.Div))
+unfolding act operand sum_value bounded taken argument arguments optional_operand optional_argument eval tests condition form_value peek store cleared written load read is_inside overwritten bytes_at little_endian low_bytes zeros converted unary arithmetic comparison
+assign_automatic_fails = simp at_forms
+
 -- the null pointer has the bounds 0 and 0
-assign_null : does (pos 1) (pos 16) (S.AssignAutomatic 3 1 2 (bounded_pointer V.Null)) ≡ goes_on_with (pos 1 ∷ pos 0 ∷ pos 0 ∷ pos 0 ∷ [])
+assign_null : does (pos 1) (pos 16) (S.AssignAutomatic 3 1 2 (bounded_pointer V.Null) []) ≡ goes_on_with (pos 1 ∷ pos 0 ∷ pos 0 ∷ pos 0 ∷ [])
 unfolding act operand sum_value bounded taken argument arguments optional_operand optional_argument eval tests condition form_value peek store cleared written load read is_inside overwritten bytes_at little_endian low_bytes zeros converted unary arithmetic comparison
 assign_null = simp at_forms
 
 -- a bound that is no address has no meaning
-assign_wild_bound : does (negsuc 0) (pos 16) (S.AssignAutomatic 3 1 2 (record { value = V.Local 1; low = of_slot 0; high = of_slot 3 })) ≡ Err Wild
+assign_wild_bound : does (negsuc 0) (pos 16) (S.AssignAutomatic 3 1 2 (record { value = V.Local 1; low = of_slot 0; high = of_slot 3 }) []) ≡ Err Wild
 unfolding act operand sum_value bounded taken argument arguments optional_operand optional_argument eval tests condition form_value peek store cleared written load read is_inside overwritten bytes_at little_endian low_bytes zeros converted unary arithmetic comparison
 assign_wild_bound = simp at_forms
 

@@ -64,7 +64,8 @@ unfoldable pub act : Keep → CheckedFn → State → S.CheckedStmt-F CheckedStm
 act keep f s (S.Empty line) = goes_on s
 act keep f s (S.Assign line slot scalar value checks) =
     eval keep f s value >>= λ v. tests keep f s checks >>= λ _. taken scalar v >>= λ w. goes_on (with_local s slot w)
-act keep f s (S.AssignAutomatic line slot hidden value) = operand keep f s value >>= λ p. goes_on (with_pointer s slot hidden p)
+act keep f s (S.AssignAutomatic line slot hidden value checks) =
+    operand keep f s value >>= λ p. tests keep f s checks >>= λ _. goes_on (with_pointer s slot hidden p)
 act keep f s (S.Store line scalar place value checks) =
     eval keep f s value >>= λ v. eval keep f s place >>= λ a. tests keep f s checks >>= λ _. taken scalar v >>= λ w.
     store s.memory scalar a w >>= remembers s

@@ -237,7 +237,8 @@ target_slots (Some (target.Automatic slot hidden)) = slot ∷ (hidden ∷ ((hidd
 abbrev pub own_flow : {A : Type 0} → CheckedFn → S.CheckedStmt-F A → Flow
 own_flow f (S.Empty line) = Leaves true
 own_flow f (S.Assign line slot scalar value checks) = value_flow f value (checked checks (Meets (Assigns (slot ∷ [])) (Leaves true)))
-own_flow f (S.AssignAutomatic line slot hidden value) = value_flow f value.value (Meets (Assigns (slot ∷ (hidden ∷ ((hidden + 1) ∷ [])))) (Leaves true))
+own_flow f (S.AssignAutomatic line slot hidden value checks) =
+    value_flow f value.value (checked checks (Meets (Assigns (slot ∷ (hidden ∷ ((hidden + 1) ∷ [])))) (Leaves true)))
 own_flow f (S.Store line scalar place value checks) = value_flow f value (value_flow f place (checked checks (Leaves true)))
 own_flow f (S.Zero line place size) = value_flow f place (Leaves true)
 own_flow f (S.Call line target function values checks) = arguments_flow f values (checked checks (Meets (Assigns (target_slots target)) (Leaves true)))

@@ -43,7 +43,7 @@ pub data Next : Type 0 where
 abbrev pub line_of : S.CheckedStmt-F CheckedStmt → ℕ
 line_of (S.Empty line) = line
 line_of (S.Assign line slot scalar value checks) = line
-line_of (S.AssignAutomatic line slot hidden value) = line
+line_of (S.AssignAutomatic line slot hidden value checks) = line
 line_of (S.Store line scalar place value checks) = line
 line_of (S.Zero line place size) = line
 line_of (S.Call line target function values checks) = line

@@ -46,12 +46,14 @@ pub enum CheckedStmt {
         value: Boxed<CheckedExpr>,
         checks: Items<usize>,
     },
-    /// `l = e` for a pointer local whose bounds lie in two hidden slots, the first of them this one.
+    /// `l = e` for a pointer local whose bounds lie in two hidden slots, the first of them this one. Its own checks are those of the
+    /// pointers that it bounds.
     AssignAutomatic {
         line: u32,
         slot: u32,
         hidden: u32,
         value: PointerOperand,
+        checks: Items<usize>,
     },
     /// `l = e` for a place of this type.
     Store {

@@ -187,10 +187,7 @@ fn assigned(alloc: Global, words: &[Token]) -> Result<Option<(Action, &[Token])>
 }
 
 /// The expression that the words begin with where `)` and `;` close it, and the words after these.
-fn closed_end(
-    alloc: Global,
-    words: &[Token],
-) -> Result<Option<(Boxed<Expr>, &[Token])>, AllocError>
+fn closed_end(alloc: Global, words: &[Token]) -> Result<Option<(Boxed<Expr>, &[Token])>, AllocError>
     ensures best { IfOk result (λ found. Best (λ v x. ClosedEnd words.now v x) Never (option_map (λ a. (a.0, a.1.now)) found)) }
     ensures shorter { IfOk result (λ found. IfSome found (λ a. length a.1.now < length words.now)) }
 {

@@ -15,10 +15,7 @@ use sqlite_items::{Boxed, Items};
 use std::alloc::{AllocError, Global};
 
 /// The test in parentheses after `if` or `while`.
-fn test_after(
-    alloc: Global,
-    words: &[Token],
-) -> Result<Option<(Boxed<Expr>, &[Token])>, AllocError>
+fn test_after(alloc: Global, words: &[Token]) -> Result<Option<(Boxed<Expr>, &[Token])>, AllocError>
     ensures best { IfOk result (λ found. Best (λ v x. TestAfter words.now v x) Never (option_map (λ a. (a.0, a.1.now)) found)) }
     ensures shorter { IfOk result (λ found. IfSome found (λ a. length a.1.now < length words.now)) }
 {
@@ -31,10 +28,7 @@ fn test_after(
 
 /// The statements that the words begin with, as many as there are, and the words after them.
 #[cycle(statement)]
-pub fn statements_at(
-    alloc: Global,
-    words: &[Token],
-) -> Result<(Items<Stmt>, &[Token]), AllocError>
+pub fn statements_at(alloc: Global, words: &[Token]) -> Result<(Items<Stmt>, &[Token]), AllocError>
     ensures best { IfOk result (λ a. Best (λ v x. StmtsAt words.now v x) (At is_in_statements) (Some (a.0, a.1.now))) }
     ensures shorter { IfOk result (λ a. length a.1.now ≤ length words.now) }
 {

@@ -80,7 +80,11 @@ fn items_are_those_of_the_grammar(rt: HostRuntime) -> Result<(), Fail> {
             "1 global UnsignedChar c; 1 global Unsigned u; 1 global UnsignedInt i; 1 global UnsignedLong l; 1 global UnsignedShort s; ",
         ),
     ] {
-        assert_eq!(rt; read(rt.alloc(), text.as_bytes())?.as_str(), want, "at {text}");
+        assert_eq!(rt;
+            read(rt.alloc(), text.as_bytes())?.as_str(),
+            want,
+            "at {text}"
+        );
     }
     Ok(())
 }
@@ -181,7 +185,10 @@ fn statements_are_those_of_the_grammar(rt: HostRuntime) -> Result<(), Fail> {
         ("f();", "2 call f(); "),
         ("f(a, b + 1, (c));", "2 call f(a, (Add b 1), [c], ); "),
         ("x =\nf(1);", "2 x = call f(1, ); "),
-        ("x = kalloc(struct s *safe, n);", "2 x = kalloc(s*safe, n); "),
+        (
+            "x = kalloc(struct s *safe, n);",
+            "2 x = kalloc(s*safe, n); ",
+        ),
         ("kfree(p);", "2 kfree p; "),
         ("zero(p->u);", "2 zero (arrow p u); "),
         ("return;", "2 return; "),
@@ -209,7 +216,11 @@ fn statements_are_those_of_the_grammar(rt: HostRuntime) -> Result<(), Fail> {
     ] {
         let lines = text.split('\n').count();
         let want = format!(in rt.alloc(); "{want}{} return; }} {} ", lines + 2, lines + 2)?;
-        assert_eq!(rt; read_body(rt.alloc(), text)?.as_str(), want.as_str(), "at {text}");
+        assert_eq!(rt;
+            read_body(rt.alloc(), text)?.as_str(),
+            want.as_str(),
+            "at {text}"
+        );
     }
     Ok(())
 }
@@ -275,7 +286,11 @@ fn what_is_no_statement_makes_no_item(rt: HostRuntime) -> Result<(), Fail> {
         "\"s\" 1;",
         "x ? y : z;",
     ] {
-        assert_eq!(rt; read_body(rt.alloc(), text)?.as_str(), "NoItem(1)", "at {text}");
+        assert_eq!(rt;
+            read_body(rt.alloc(), text)?.as_str(),
+            "NoItem(1)",
+            "at {text}"
+        );
     }
     Ok(())
 }
@@ -308,7 +323,8 @@ int init(void) {
 }
 ";
 
-const RING_TREE: &str = "1 struct ring { 1 Unsigned len; 1 UnsignedChar*+len buf; 1 Unsigned head; } 2 global ring r; \
+const RING_TREE: &str =
+    "1 struct ring { 1 Unsigned len; 1 UnsignedChar*+len buf; 1 Unsigned head; } 2 global ring r; \
 3 function Void tick(3 Int n, ) { 3 Int k; 3 k = call set_timer(1, 10, tick, (Add n 1), ); 3 return; 3 return; } 3 \
 4 function Void irq(4 Int line, ) { 5 Int c; 6 c = call port_in(768, ); 7 (index (field r buf) (field r head)) = c; \
 8 (field r head) = (Add (field r head) 1); 9 return; 10 return; } 10 \
@@ -334,6 +350,10 @@ fn bodies_nest_as_deep_as_brackets_may(rt: HostRuntime) -> Result<(), Fail> {
     for _ in 0..63 {
         text.push_str("}")?;
     }
-    assert!(rt; read(rt.alloc(), text.as_bytes())?.as_str().starts_with("1 function Void f(void) { 1 while x { 1 while x"));
+    assert!(rt;
+        read(rt.alloc(), text.as_bytes())?
+            .as_str()
+            .starts_with("1 function Void f(void) { 1 while x { 1 while x")
+    );
     Ok(())
 }

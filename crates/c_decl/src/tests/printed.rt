@@ -69,26 +69,6 @@ fn write_type(out: &mut String, type_name: &TypeName) -> Result<(), AllocError> 
     write_stars(out, type_name.stars.as_slice())
 }
 
-/// Two expressions in parentheses behind a word.
-fn write_pair(out: &mut String, word: &str, left: &Expr, right: &Expr) -> Result<(), AllocError> {
-    write!(out, "({word} ")?;
-    write_expr(out, left)?;
-    out.push_str(" ")?;
-    write_expr(out, right)?;
-    out.push_str(")")?;
-    Ok(())
-}
-
-/// A field in parentheses behind a word.
-fn write_member(out: &mut String, word: &str, of: &Expr, name: &Name) -> Result<(), AllocError> {
-    write!(out, "({word} ")?;
-    write_expr(out, of)?;
-    out.push_str(" ")?;
-    write_name(out, name)?;
-    out.push_str(")")?;
-    Ok(())
-}
-
 /// An expression with all its parentheses, operators first.
 fn write_expr(out: &mut String, e: &Expr) -> Result<(), AllocError> {
     match e {
@@ -126,9 +106,27 @@ fn write_expr(out: &mut String, e: &Expr) -> Result<(), AllocError> {
             write_type(out, measured)?;
             out.push_str(")")?;
         }
-        Expr::Field(of, name) => write_member(out, "field", of.get(), name)?,
-        Expr::Arrow(of, name) => write_member(out, "arrow", of.get(), name)?,
-        Expr::Index(of, index) => write_pair(out, "index", of.get(), index.get())?,
+        Expr::Field(of, name) => {
+            out.push_str("(field ")?;
+            write_expr(out, of.get())?;
+            out.push_str(" ")?;
+            write_name(out, name)?;
+            out.push_str(")")?;
+        }
+        Expr::Arrow(of, name) => {
+            out.push_str("(arrow ")?;
+            write_expr(out, of.get())?;
+            out.push_str(" ")?;
+            write_name(out, name)?;
+            out.push_str(")")?;
+        }
+        Expr::Index(of, index) => {
+            out.push_str("(index ")?;
+            write_expr(out, of.get())?;
+            out.push_str(" ")?;
+            write_expr(out, index.get())?;
+            out.push_str(")")?;
+        }
     }
     Ok(())
 }

@@ -1,5 +1,5 @@
 -- The lines of texts that are accepted.
-use Rattle.std.proofs.Common.{◌≡◌, ℕ, ◌+◌, ◌≤◌, List, [], ◌∷◌, ◌++◌, length, map, Option, pos, refl, arith}
+use Rattle.std.proofs.Common.{ℕ, ◌+◌, ◌≤◌, List, [], ◌∷◌, length, map, Option, pos, refl, arith}
 use Rattle.std.specs.Prelude.{codes}
 use Rattle.sd_outside.specs.Sink.{more, IsCut}
 use Rattle.sd_engine.specs.ThinRun.{number_line}

@@ -1,5 +1,5 @@
 -- The files of a command have different names.
-use Rattle.std.proofs.Common.{◌≡◌, ℕ, Bool, true, false, List, [], ◌∷◌, length, Option, None, Some, cond, ◌&&◌, ◌||◌, ◌⊎◌, inl, inr, not, refl, ap, sym, ◌∙◌, subst}
+use Rattle.std.proofs.Common.{◌≡◌, ℕ, Bool, true, false, List, [], ◌∷◌, length, None, Some, cond, ◌&&◌, ◌⊎◌, inl, inr, refl, sym, subst}
 use Rattle.std.specs.Prelude.{bytes_eq, codes, nat_le}
 use Rattle.std.proofs.lemmas.Slice.Eq.{bytes_eq-Decides}
 use Rattle.sd_engine.specs.Command.{CommandWords, run_words, check_words, command_of, check_of, run_of, are_file_words, all_differ, most_drivers}

@@ -1,5 +1,5 @@
 -- Reading a list item by item: what was read is the front of every reading of the whole.
-use Rattle.std.proofs.Common.{◌≡◌, List, [], ◌∷◌, ◌++◌, refl, ap, sym, ◌∙◌, subst, append_assoc, append-nil}
+use Rattle.std.proofs.Common.{◌≡◌, List, [], ◌∷◌, ◌++◌, refl, ap, ◌∙◌, append_assoc, append-nil}
 
 -- reading the rest goes on a reading of the text, and every reading of the text is one of the rest after these items
 pub record IsFront {T X : Type 0} (R : T → List X → Type 0) (text rest : T) (items : List X) : Type 0 where

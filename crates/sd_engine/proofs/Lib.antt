@@ -7,3 +7,4 @@ pub mod Checks
 pub mod Together
 pub mod Commands
 pub mod Served
+pub mod Examples

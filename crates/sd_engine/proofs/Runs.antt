@@ -1,15 +1,14 @@
 -- A run's lines are written one after the other.
-use Rattle.std.proofs.Common.{◌≡◌, ℕ, suc, ◌+◌, ◌<◌, ◌≤◌, Bool, true, false, List, [], ◌∷◌, ◌++◌, length, drop, get_or, ℤ, pos, Option, None, Some, Result, OnErr, OnOk, cond, append-nil, refl, ap, sym, ◌∙◌, subst, arith, append_assoc, add-one, Ok, Err, drop_of_length-le}
+use Rattle.std.proofs.Common.{◌≡◌, ℕ, suc, ◌+◌, ◌<◌, ◌≤◌, Bool, true, false, List, [], ◌∷◌, ◌++◌, length, drop, get_or, pos, Option, Result, OnErr, cond, append-nil, refl, ap, sym, ◌∙◌, add-one, Ok, Err, drop_of_length-le}
 use Rattle.std.proofs.Math.Seq.{drop-cons}
 use Rattle.std.proofs.lemmas.Bool.{lt-ltb}
-use Rattle.std.specs.Prelude.{codes, nat_lt}
+use Rattle.std.specs.Prelude.{nat_lt}
 use Rattle.sd_engine.specs.declared.thin_program.Statement.{Statement}
 use Rattle.sd_engine.specs.declared.thin_program.Statement.TheVariants.{Return}
 use Rattle.sd_engine.specs.declared.thin_scenario.Event.{Event}
 use Rattle.sd_engine.specs.declared.thin_run.Stage.{Stage}
 use Rattle.sd_engine.specs.declared.thin_run.Stage.TheVariants.{Over, Stopped}
-use Rattle.sd_engine.specs.ThinRun.{number_line, run_lines, run_stage, statement_line, is_return, lines_from, event_lines, stage_after, last_line, most_steps}
-use Rattle.sd_outside.specs.Counts.{HasCause, Rose}
+use Rattle.sd_engine.specs.ThinRun.{run_lines, run_stage, statement_line, is_return, lines_from, event_lines, stage_after, last_line, most_steps}
 use Rattle.sd_outside.specs.Sink.{more, IsCut}
 use Rattle.sd_outside.proofs.More.{more-more, more-nothing}
 

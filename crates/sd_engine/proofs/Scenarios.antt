@@ -1,5 +1,5 @@
 -- Thin scenarios are read line by line.
-use Rattle.std.proofs.Common.{◌≡◌, ℕ, ◌+◌, ◌<◌, ◌≤◌, ◌⊎◌, inl, inr, List, [], ◌∷◌, ◌++◌, length, Option, None, Some, MatchOption, Bor, refl, ap, sym, ◌∙◌, arith, append_assoc, append-nil, subst, length-append, lit<, suc}
+use Rattle.std.proofs.Common.{◌≡◌, ℕ, ◌+◌, ◌<◌, ◌≤◌, inl, inr, List, [], ◌∷◌, ◌++◌, length, Option, None, Some, MatchOption, Bor, refl, ap, sym, ◌∙◌, arith, append_assoc, append-nil, subst, length-append, lit<, suc}
 use Rattle.std.proofs.lemmas.List.{append_cancel_left, append_cancel_right}
 use Rattle.sd_engine.specs.declared.thin_scenario.Event.{Event}
 use Rattle.sd_engine.specs.declared.thin_scenario.Event.TheVariants.{Load, Finish}

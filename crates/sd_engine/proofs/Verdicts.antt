@@ -1,13 +1,11 @@
 -- A verdict on the items of a text is one on the text.
-use Rattle.std.proofs.Common.{◌≡◌, ℕ, Result, Ok, Err, IfOk, sym, subst}
+use Rattle.std.proofs.Common.{Result, Ok, Err, IfOk, sym, subst}
 use Rattle.c_tree.specs.declared.items.Unit.{Unit as TextUnit}
 use Rattle.c_tree.specs.Bytes.{Text}
 use Rattle.c_tree.specs.Units.{Reads}
 use Rattle.driver_front.specs.declared.causes.Cause.{Cause}
-use Rattle.driver_front.specs.declared.causes.Cause.TheVariants as cause
 use Rattle.sd_engine.specs.declared.drivers.Verdict.{Verdict}
 use Rattle.sd_engine.specs.declared.drivers.Verdict.TheVariants as verdict
-use Rattle.sd_engine.specs.ThinProgram.{later, program_of}
 use Rattle.sd_engine.specs.Verdict.{IsVerdict, IsVerdictOf, IsRefused, not_yet}
 
 pub verdict-read : (t : Text) (u : TextUnit) (v : Verdict) → Reads t u → IsVerdictOf u v → IsVerdict t v

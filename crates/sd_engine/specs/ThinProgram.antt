@@ -19,7 +19,6 @@ use Rattle.c_tree.specs.declared.statements.Action.TheVariants as action
 use Rattle.c_tree.specs.declared.statements.Body.{Body}
 use Rattle.c_tree.specs.declared.statements.Stmt.{Stmt, out-Stmt}
 use Rattle.c_tree.specs.declared.statements.Body.TheOpen.{Stmt-F}
-use Rattle.c_tree.specs.declared.types.Base.{Base}
 use Rattle.c_tree.specs.declared.types.Base.TheVariants as base
 use Rattle.c_tree.specs.declared.types.Number.{Number}
 use Rattle.c_tree.specs.declared.words.Suffix.{Suffix}

@@ -1,5 +1,5 @@
 -- A first text, and those behind it.
-use Rattle.std.proofs.Common.{◌≡◌, ◌≤◌, ◌++◌, ◌∷◌, [], rules, true, not, length, map, ap, sym, ◌∙◌, is_ok}
+use Rattle.std.proofs.Common.{◌≡◌, ◌≤◌, rules, true, not, length, map, ap, ◌∙◌, is_ok}
 use Rattle.std.proofs.lemmas.List.{map-append}
 use Rattle.sd_outside.proofs.Counting.{RoseBeyond-after}
 use Rattle.sd_engine.proofs.Together.{texts-first, long-behind, on-ok}

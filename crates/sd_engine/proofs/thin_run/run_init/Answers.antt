@@ -1,5 +1,5 @@
 -- Each statement tells its line, and the end or the most steps end the lines.
-use Rattle.std.proofs.Common.{◌≡◌, ◌<◌, [], refl, ◌∙◌, arith}
+use Rattle.std.proofs.Common.{◌<◌, [], refl, ◌∙◌, arith}
 use Rattle.sd_engine.specs.ThinRun.{most_steps}
 use Rattle.sd_engine.proofs.Runs.{IsCut-at, on-error, rest-at, rest-past, told-stopped, at-stopped, cut-line, told-end}
 use Rattle.sd_engine.proofs.thin_run.run_init.Goals as goal

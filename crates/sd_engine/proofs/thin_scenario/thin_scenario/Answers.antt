@@ -1,5 +1,5 @@
 -- Each line is one more event, and where the text ends the events are its one reading.
-use Rattle.std.proofs.Common.{◌≡◌, ◌+◌, ◌≤◌, ◌<◌, length, vec_len, arith, sym, ◌∙◌}
+use Rattle.std.proofs.Common.{◌≡◌, ◌≤◌, length, arith}
 use Rattle.sd_engine.proofs.Empty.{empty-when, more-when}
 use Rattle.sd_engine.proofs.Fronts.{IsFront-start, IsFront-item}
 use Rattle.sd_engine.proofs.Scenarios.{IsItem-line, scenario-stuck, scenario-full, scenario-read, shorter-line}

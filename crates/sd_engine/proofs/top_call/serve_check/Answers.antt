@@ -1,6 +1,6 @@
 -- The answer is that of the texts as they were read.
-use Rattle.std.proofs.Common.{List, [], map, ap, sym, subst}
-use Rattle.sd_engine.specs.Serve.{AreShort, AreTexts}
+use Rattle.std.proofs.Common.{map, ap, sym, subst}
+use Rattle.sd_engine.specs.Serve.{AreShort}
 use Rattle.sd_engine.proofs.Served.{all-texts, texts-short}
 use Rattle.sd_engine.proofs.top_call.serve_check.Goals as goal
 

@@ -1,5 +1,5 @@
 -- The second text is read from the shelf that the first left, which tells of it what it told before.
-use Rattle.std.proofs.Common.{◌≡◌, ◌≤◌, length, refl, sym, ◌∙◌, ap, arith, Err}
+use Rattle.std.proofs.Common.{◌≤◌, length, refl, sym, ◌∙◌, ap, arith, Err}
 use Rattle.sd_outside.proofs.Counting.{RoseBeyond-after}
 use Rattle.sd_engine.proofs.Served.{text-is, too-long-only}
 use Rattle.sd_engine.proofs.top_call.serve_run.Goals as goal

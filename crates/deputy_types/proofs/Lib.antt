@@ -1,0 +1,6 @@
+pub mod NameEquality
+pub mod ElementEquality
+pub mod MemberEquality
+pub mod RuleExamples
+pub mod StatementForms
+pub mod StatementExamples

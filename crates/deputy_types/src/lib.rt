@@ -3,6 +3,7 @@
 #![tactic(auto)]
 
 mod asked;
+mod dependence;
 mod derived;
 mod element;
 mod element_list;
@@ -24,6 +25,7 @@ mod table;
 mod types;
 
 pub use asked::{Asked, AskedCond};
+pub use dependence::has_names;
 pub use derived::{
     ArrayPlace, Derived, FoundArm, Place, Pointed, Refusal, Source, UnionPlace, Value, Whole,
     Written,
@@ -44,5 +46,5 @@ pub use sibling::{MemberName, Role, Unannotated};
 pub use siblings::Siblings;
 pub use signature::{Returned, Signature};
 pub use struct_names::StructNames;
-pub use table::GlobalPlace;
+pub use table::{GlobalPlace, TypeTable};
 pub use types::Types;

@@ -10,6 +10,8 @@ mod element_list;
 mod extent;
 mod families;
 mod found;
+mod found_forms;
+mod found_types;
 mod global;
 mod handed;
 mod kernel_calls;

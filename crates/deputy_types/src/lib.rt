@@ -12,6 +12,7 @@ mod found;
 mod global;
 mod handed;
 mod kernel_calls;
+mod keys;
 mod member_list;
 mod name_list;
 mod naming;
@@ -36,6 +37,9 @@ pub use found::Found;
 pub use global::GlobalShape;
 pub use handed::{Handed, Passed};
 pub use kernel_calls::{ArgumentKind, KernelArguments};
+pub use keys::{
+    are_constant, base_key, constant_sum, is_char, last_star, pointed_key, stars_key, type_key,
+};
 pub use member_list::MemberList;
 pub use name_list::NameList;
 pub use naming::{Change, Names, Naming};

@@ -7,6 +7,7 @@ mod derived;
 mod element;
 mod element_list;
 mod extent;
+mod extents;
 mod families;
 mod found;
 mod global;
@@ -32,6 +33,7 @@ pub use derived::{
 pub use element::Element;
 pub use element_list::ElementList;
 pub use extent::Extent;
+pub use extents::{key_extent, round_up_to, stars_extent, type_extent};
 pub use families::Family;
 pub use found::Found;
 pub use global::GlobalShape;

@@ -31,7 +31,7 @@ pub fn base_key(structs: &NameList, base: &Base) -> Option<Element>
 /// A number with the sign before it.
 pub(crate) fn signed_number(negative: bool, value: u32) -> i64
     ensures value { result ≡ spec.signed_number negative value }
-    ensures written { IsTrue (spec.is_written result) }
+    ensures count { IsTrue (spec.is_count result) }
 {
     if negative {
         -(value as i64)

@@ -4,6 +4,7 @@
 
 mod asked;
 mod derived;
+mod edges;
 mod element;
 mod element_list;
 mod extent;

@@ -5,9 +5,11 @@
 mod asked;
 mod dependence;
 mod derived;
+mod edges;
 mod element;
 mod element_list;
 mod extent;
+mod extents;
 mod families;
 mod found;
 mod found_forms;
@@ -15,6 +17,7 @@ mod found_types;
 mod global;
 mod handed;
 mod kernel_calls;
+mod keys;
 mod member_list;
 mod name_list;
 mod naming;
@@ -35,11 +38,15 @@ pub use derived::{
 pub use element::Element;
 pub use element_list::ElementList;
 pub use extent::Extent;
+pub use extents::{key_extent, round_up_to, stars_extent, type_extent};
 pub use families::Family;
 pub use found::Found;
 pub use global::GlobalShape;
 pub use handed::{Handed, Passed};
 pub use kernel_calls::{ArgumentKind, KernelArguments};
+pub use keys::{
+    are_constant, base_key, constant_sum, is_char, last_star, pointed_key, stars_key, type_key,
+};
 pub use member_list::MemberList;
 pub use name_list::NameList;
 pub use naming::{Change, Names, Naming};

@@ -6,6 +6,7 @@ mod asked;
 mod dependence;
 mod derived;
 mod edges;
+mod elem_shapes;
 mod element;
 mod element_list;
 mod extent;

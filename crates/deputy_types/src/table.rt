@@ -1,9 +1,12 @@
 //! `TypeTable`: the types of a text, and what the rules look up in it.
 ghost use Rattle.std.specs.Prelude.{◌≡◌, option_copied};
+ghost use Rattle.deputy_types.specs.Extents.{AreExtents};
 ghost use Rattle.deputy_types.specs.Table as table;
 
 use crate::dependence::{any_names, are_tagged_by};
-use crate::{Element, Extent, NameList, StructNames, Types};
+use crate::elem_shapes::{elem_size, size_behind};
+use crate::{Element, Extent, NameList, StructNames, Types, base_key, type_key};
+use c_tree::TypeName;
 use checked_tree::{ImageBlock, Member, Shape, StructShape, UnionShape};
 use sd_base::Name;
 use sqlite_items::Items;
@@ -38,6 +41,7 @@ pub struct TypeTable {
 
 impl Model for TypeTable {
     ghost use Rattle.std.specs.Prelude.{ℕ, ◌+◌, ◌<◌, ◌^◌, length};
+    ghost use Rattle.deputy_types.specs.Extents.{AreExtents};
     ghost use Rattle.deputy_types.specs.Table.{Table};
 
     ghost Value = { Table };
@@ -54,7 +58,7 @@ impl Model for TypeTable {
       literals = t.literals;
     } };
 
-    ghost invariant = { λ t. length t.globals + t.literals < 2 ^ 32 };
+    ghost invariant = { λ t. (length t.globals + t.literals < 2 ^ 32) × AreExtents t.extents };
 }
 
 impl TypeTable {
@@ -66,10 +70,11 @@ impl TypeTable {
     }
 
     /// The room of each struct, by its number.
-    pub fn extents(&self) -> &Items<Extent>
-        ensures { result.now ≡ self.now.extents }
+    pub fn extents(&self) -> &[Extent]
+        ensures extents { result.now ≡ self.now.extents }
+        ensures fit { AreExtents self.now.extents }
     {
-        &self.extents
+        self.extents.as_slice()
     }
 
     /// The shapes of the types of elements, by number: `char` first.
@@ -159,6 +164,36 @@ impl TypeTable {
             return Some(self.globals.len() as u32 + k);
         }
         None
+    }
+
+    /// The number of a type in the list of elements. None where it is none: it has an annotation that is not constant, or no star, global or `kalloc` of the
+    /// text has such an element.
+    #[tactic(auto, unfolding(crate::specs::Table::elem))]
+    pub fn elem(&self, name: &TypeName) -> Option<u32>
+        ensures { result ≡ table.elem self.now name.now }
+    {
+        match type_key(&self.types, name) {
+            Some(key) => self.types.elements.number(&key),
+            None => None,
+        }
+    }
+
+    /// The bytes of the element with this number. None where there is none.
+    pub fn size_of_elem(&self, elem: u32) -> Option<u32>
+        ensures { result ≡ table.size_of_elem self.now elem }
+    {
+        elem_size(&self.types.elements, self.extents.as_slice(), elem)
+    }
+
+    /// The bytes of the type that a type name names. None where it names none, or has an annotation that is not constant.
+    #[tactic(auto, unfolding(crate::specs::Table::size))]
+    pub fn size(&self, name: &TypeName) -> Option<u32>
+        ensures { result ≡ table.size self.now name.now }
+    {
+        match base_key(&self.types.structs, &name.base) {
+            Some(key) => size_behind(self.extents.as_slice(), &key, name.stars.as_slice()),
+            None => None,
+        }
     }
 
     /// The shape of the element with this number. None where there is none.

@@ -1,4 +1,5 @@
 pub mod Options
+pub mod Keys
 pub mod Types
 pub mod Siblings
 pub mod Extents

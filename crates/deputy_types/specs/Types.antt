@@ -1,5 +1,5 @@
 -- The types of a text as keys: equal types have equal keys, and a key's number is its place in the list of elements.
-use Rattle.std.specs.Prelude.{ℕ, Bool, true, false, ◌&&◌, ◌==◌, ◌^◌, if◌then◌else◌, List, [], ◌∷◌, ℤ, pos, ◌+ℤ◌, ◌*ℤ◌, neg_ℤ, Option, Some, None, is_some, option_map, position, bytes_eq, slice_get, take, length, ◌-◌, IsTrue}
+use Rattle.std.specs.Prelude.{ℕ, Bool, true, false, ◌&&◌, ◌==◌, ◌^◌, if◌then◌else◌, List, [], ◌∷◌, ℤ, pos, ◌+ℤ◌, ◌*ℤ◌, neg_ℤ, Option, Some, None, is_some, option_map, position, bytes_eq, slice_get, take, length, ◌-◌}
 use Rattle.std.specs.Ordering.{int_eq}
 use Rattle.c_tree.specs.declared.types.Annotation.{Annotation}
 use Rattle.c_tree.specs.declared.types.Annotation.TheVariants as annotation
@@ -117,11 +117,6 @@ pointer_key n key (Some note) = annotated_key n key note
 -- the type behind a star
 unfoldable pub star_key : List Element → Element → Star → Option Element
 star_key elements key star = and_then (element_number elements key) (λ n. pointer_key n key star.annotation)
-
--- the type of a pointer to elements counts less than 2^42 of them: what a text can write
-abbrev pub IsKey : Element → Type 0
-IsKey (element.Count n k) = IsTrue (is_count k)
-IsKey _ = Unit {0}
 
 -- the type behind these stars
 abbrev pub stars_key : List Element → Element → List Star → Option Element

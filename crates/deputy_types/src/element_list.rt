@@ -1,8 +1,9 @@
 //! `ElementList`: the types of elements by number.
-ghost use Rattle.std.specs.Prelude.{◌≡◌, [], ◌∷◌, IfOk, OnOk, option_copied, slice_get, length};
+ghost use Rattle.std.specs.Prelude.{◌≡◌, [], ◌∷◌, IfOk, IfSome, OnOk, option_copied, slice_get, length};
 ghost use Rattle.deputy_types.specs.declared.element.Element.TheVariants.{Int};
 ghost use Rattle.checked_tree.specs.declared.shapes.Scalar.TheVariants.{U8};
 ghost use Rattle.deputy_types.specs.Found.{with_element};
+ghost use Rattle.deputy_types.specs.Keys.{IsKey};
 ghost use Rattle.deputy_types.specs.Types.{element_number};
 
 use crate::Element;
@@ -12,21 +13,23 @@ use sd_base::Memory;
 use std::alloc::Global;
 use std::marker::Model;
 
-/// Distinct types of elements by number, less than 2^32 of them. It is seen as their list.
+/// Distinct types of elements by number, less than 2^32 of them, each one that a text can write. It is seen as their list.
 #[derive(Drop)]
 pub struct ElementList {
     keys: IndexSet<Element>,
 }
 
 impl Model for ElementList {
+    ghost use Rattle.std.specs.List.{All};
     ghost use Rattle.std.specs.Prelude.{ℕ, List, ◌<◌, ◌^◌, length};
+    ghost use Rattle.deputy_types.specs.Keys.{IsKey};
     ghost use Rattle.deputy_types.specs.declared.element.Element.{Element};
 
     ghost Value = { List Element };
 
     ghost view = { λ n. n.keys.keys };
 
-    ghost invariant = { λ n. length n.keys.keys < 2 ^ 32 };
+    ghost invariant = { λ n. (length n.keys.keys < 2 ^ 32) × All IsKey n.keys.keys };
 }
 
 impl ElementList {
@@ -50,8 +53,10 @@ impl ElementList {
     }
 
     /// The type with this number. None where there is none.
+    #[tactic(auto, using(crate::proofs::KeyCounts::key_at))]
     pub fn get(&self, n: u32) -> Option<Element>
-        ensures { result ≡ slice_get self.now n }
+        ensures value { result ≡ slice_get self.now n }
+        ensures key { IfSome result IsKey }
     {
         self.keys.get_index(n as usize).copied()
     }
@@ -66,6 +71,7 @@ impl ElementList {
     /// Adds a type behind the others, if it is new.
     #[tactic(auto, unfolding(crate::specs::Found::with_element))]
     pub(crate) fn add(&mut self, key: Element) -> Result<(), Memory>
+        requires { IsKey key }
         ensures { OnOk result (self.new ≡ with_element self.old key) }
     {
         if self.keys.contains(&key) {

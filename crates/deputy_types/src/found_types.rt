@@ -1,6 +1,7 @@
 //! The types of elements that declarations and type names hold, in text order.
-ghost use Rattle.std.specs.Prelude.{◌≡◌, IfOk, OnOk};
+ghost use Rattle.std.specs.Prelude.{◌≡◌, IfOk, IfSome, OnOk};
 ghost use Rattle.deputy_types.specs.Found as spec;
+ghost use Rattle.deputy_types.specs.Keys.{IsKey};
 ghost use Rattle.deputy_types.specs.Types as types;
 
 use crate::keys::{base_key, star_key};
@@ -14,6 +15,7 @@ fn add_stars(
     first: Option<Element>,
     stars: &[Star],
 ) -> Result<(), Memory>
+    requires { IfSome first IsKey }
     ensures { OnOk result (elements.new ≡ spec.with_stars elements.old first stars.now) }
 {
     let mut key = first;
@@ -27,20 +29,23 @@ fn add_stars(
 }
 
 /// Adds a type as an element. Answers the type behind a star.
+#[tactic(auto, using(crate::proofs::KeyCounts::star_keys))]
 fn next_key(
     elements: &mut ElementList,
     key: Element,
     star: &Star,
 ) -> Result<Option<Element>, Memory>
+    requires { IsKey key }
     ensures elements { OnOk result (elements.new ≡ spec.with_element elements.old key) }
     ensures key { IfOk result (λ next. next ≡ types.star_key (spec.with_element elements.old key) key star.now) }
+    ensures is_key { IfOk result (λ next. IfSome next IsKey) }
 {
     elements.add(key)?;
     Ok(star_key(elements, &key, star))
 }
 
 /// Adds the elements of a type name's stars.
-#[tactic(auto, unfolding(crate::specs::Found::with_types))]
+#[tactic(auto, using(crate::proofs::KeyCounts::base_keys), unfolding(crate::specs::Found::with_types))]
 pub(crate) fn add_types(
     structs: &NameList,
     elements: &mut ElementList,
@@ -61,6 +66,7 @@ fn add_whole_stars(
     first: Option<Element>,
     stars: &[Star],
 ) -> Result<(), Memory>
+    requires { IfSome first IsKey }
     ensures { OnOk result (elements.new ≡ spec.with_whole_stars elements.old first stars.now) }
 {
     let mut key = first;
@@ -77,7 +83,7 @@ fn add_whole_stars(
 }
 
 /// Adds the elements of a type name's stars, and the type itself: that of a global or of new memory.
-#[tactic(auto, unfolding(crate::specs::Found::with_whole_type))]
+#[tactic(auto, using(crate::proofs::KeyCounts::base_keys), unfolding(crate::specs::Found::with_whole_type))]
 pub(crate) fn add_whole_type(
     structs: &NameList,
     elements: &mut ElementList,
@@ -121,8 +127,10 @@ pub(crate) fn add_locals(
 }
 
 /// The type that a result begins with. `void` is none.
+#[tactic(auto, using(crate::proofs::KeyCounts::base_keys))]
 fn result_key(structs: &NameList, base: &ResultBase) -> Option<Element>
-    ensures { result ≡ spec.result_key structs.now base.now }
+    ensures key { result ≡ spec.result_key structs.now base.now }
+    ensures is_key { IfSome result IsKey }
 {
     match base {
         ResultBase::Void => None,

@@ -18,6 +18,7 @@ mod found_types;
 mod global;
 mod handed;
 mod kernel_calls;
+mod kernel_names;
 mod keys;
 mod member_list;
 mod name_list;
@@ -45,6 +46,7 @@ pub use found::Found;
 pub use global::GlobalShape;
 pub use handed::{Handed, Passed};
 pub use kernel_calls::{ArgumentKind, KernelArguments};
+pub use kernel_names::kernel_named;
 pub use keys::{
     are_constant, base_key, constant_sum, is_char, last_star, pointed_key, stars_key, type_key,
 };

@@ -3,6 +3,7 @@
 #![tactic(auto)]
 
 mod asked;
+mod bounds;
 mod derived;
 mod edges;
 mod element;
@@ -19,11 +20,13 @@ mod member_list;
 mod name_list;
 mod naming;
 mod refusal;
+mod roles;
 mod sibling;
 mod siblings;
 mod signature;
 mod struct_names;
 mod table;
+mod typed_shapes;
 mod types;
 
 pub use asked::{Asked, AskedCond};
@@ -47,9 +50,11 @@ pub use member_list::MemberList;
 pub use name_list::NameList;
 pub use naming::{Change, Names, Naming};
 pub use refusal::TypeRefusal;
+pub use roles::declared_role;
 pub use sibling::{MemberName, Role, Unannotated};
 pub use siblings::Siblings;
 pub use signature::{Returned, Signature};
 pub use struct_names::StructNames;
 pub use table::GlobalPlace;
+pub use typed_shapes::typed_shape;
 pub use types::Types;

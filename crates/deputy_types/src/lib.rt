@@ -16,6 +16,7 @@ mod global;
 mod handed;
 mod kernel_calls;
 mod keys;
+mod laying;
 mod member_list;
 mod name_list;
 mod naming;
@@ -25,6 +26,7 @@ mod sibling;
 mod siblings;
 mod signature;
 mod struct_names;
+mod struct_siblings;
 mod table;
 mod typed_shapes;
 mod types;
@@ -46,6 +48,7 @@ pub use kernel_calls::{ArgumentKind, KernelArguments};
 pub use keys::{
     are_constant, base_key, constant_sum, is_char, last_star, pointed_key, stars_key, type_key,
 };
+pub use laying::{Arms, Laid, Laying, Scope};
 pub use member_list::MemberList;
 pub use name_list::NameList;
 pub use naming::{Change, Names, Naming};

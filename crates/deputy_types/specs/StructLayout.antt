@@ -22,6 +22,7 @@ use Rattle.deputy_types.specs.declared.extent.Extent.{Extent}
 use Rattle.deputy_types.specs.declared.laying.Arms.{Arms}
 use Rattle.deputy_types.specs.declared.laying.Laid.{Laid}
 use Rattle.deputy_types.specs.declared.laying.Laying.{Laying}
+use Rattle.deputy_types.specs.declared.laying.Scope.{Scope}
 use Rattle.deputy_types.specs.declared.refusal.TypeRefusal.{TypeRefusal}
 use Rattle.deputy_types.specs.declared.refusal.TypeRefusal.TheVariants as refusal
 use Rattle.deputy_types.specs.declared.sibling.MemberName.{MemberName}
@@ -93,6 +94,9 @@ pub record Surroundings : Type 0 where
   pub number : ℕ
   pub siblings : Siblings
 
+abbrev pub around : Scope → Surroundings
+around at = record { types = at.types.now; extents = at.extents.now; number = at.number; siblings = at.siblings.now }
+
 -- what holds of a struct so far: it is within the limits
 pub record IsLaying (x : Laying) : Type 0 where
   pub end : x.end ≤ 65536
@@ -159,10 +163,13 @@ placed laying line x count extent = and_ok (within_limits line laying.fields (ro
 unfoldable pub is_new_field : Surroundings → Laying → List ℕ → Bool
 is_new_field at laying name = is_first at.siblings (length laying.members) None name && not (list_any (bytes_eq name) laying.names)
 
+-- a shape and a count, where both are there
+abbrev pub counted : Option Shape → Option ℕ → Option (Shape × ℕ)
+counted x count = and_then x (λ a. option_map (λ n. (a, n)) count)
+
 -- the shape and the count of a field, where it meets the rules
 unfoldable pub field_declared : Surroundings → Laying → Declaration → Option (Shape × ℕ)
-field_declared at laying d = if is_new_field at laying d.name
-    then and_then (field_shape at (length laying.members) d) (λ x. option_map (λ n. (x, n)) (element_count d.size)) else None
+field_declared at laying d = if is_new_field at laying d.name then counted (field_shape at (length laying.members) d) (element_count d.size) else None
 
 -- with a field that is no union
 unfoldable pub with_plain : Surroundings → Laying → ℕ → Declaration → Result Laying TypeRefusal

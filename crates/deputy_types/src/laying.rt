@@ -4,7 +4,7 @@ use checked_tree::{Member, StructShape, UnionShape};
 use sqlite_items::Items;
 
 /// What a struct's fields are read with.
-pub struct Scope<'a> {
+pub(crate) struct Scope<'a> {
     /// The types of the text.
     pub types: &'a Types,
     /// The extents of the structs by number.
@@ -17,7 +17,7 @@ pub struct Scope<'a> {
 
 /// A struct so far.
 #[derive(Drop)]
-pub struct Laying {
+pub(crate) struct Laying {
     pub members: Items<Member>,
     pub unions: Items<UnionShape>,
     /// The names of the unions by number.
@@ -32,7 +32,7 @@ pub struct Laying {
 
 /// The arms of a union so far.
 #[derive(Drop)]
-pub struct Arms {
+pub(crate) struct Arms {
     /// The members of the struct, these arms last.
     pub members: Items<Member>,
     /// The number of the tag; none before the first arm.
@@ -43,7 +43,7 @@ pub struct Arms {
 
 /// A struct that was laid out.
 #[derive(Drop)]
-pub struct Laid {
+pub(crate) struct Laid {
     pub shape: StructShape,
     pub extent: Extent,
     pub names: StructNames,

@@ -11,6 +11,7 @@ mod element_list;
 mod extent;
 mod extents;
 mod families;
+mod fields;
 mod found;
 mod global;
 mod handed;
@@ -41,6 +42,7 @@ pub use element_list::ElementList;
 pub use extent::Extent;
 pub use extents::{key_extent, round_up_to, stars_extent, type_extent};
 pub use families::Family;
+pub use fields::element_count;
 pub use found::Found;
 pub use global::GlobalShape;
 pub use handed::{Handed, Passed};
@@ -48,7 +50,6 @@ pub use kernel_calls::{ArgumentKind, KernelArguments};
 pub use keys::{
     are_constant, base_key, constant_sum, is_char, last_star, pointed_key, stars_key, type_key,
 };
-pub use laying::{Arms, Laid, Laying, Scope};
 pub use member_list::MemberList;
 pub use name_list::NameList;
 pub use naming::{Change, Names, Naming};

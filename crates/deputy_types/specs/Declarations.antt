@@ -146,10 +146,14 @@ plain_shape (element.Sentinel n) = None
 plain_shape (element.Nullterm n) = None
 plain_shape (element.Count n k) = None
 
+-- the shape of a pointer with this last star to elements with this size, number and type
+abbrev pub pointer_to : ℕ → Unannotated → Siblings → ℕ → ℕ → Element → Star → Option Shape
+pointer_to size plain siblings place elem key star = option_map (λ b. shape.Pointer elem b) (star_bounds size plain siblings place elem key star.annotation)
+
 -- the shape of a pointer to the type `key` with this last star
 unfoldable pub pointer_shape : List Element → List Extent → Unannotated → Siblings → ℕ → Element → Star → Option Shape
 pointer_shape elements extents plain siblings place key star = and_then (element_number elements key)
-    (λ elem. option_map (λ b. shape.Pointer elem b) (star_bounds (key_extent extents key).bytes plain siblings place elem key star.annotation))
+    (λ elem. pointer_to (key_extent extents key).bytes plain siblings place elem key star)
 
 -- the shape of what this last star, if there is one, makes of the type `key`
 abbrev pub shape_behind : List Element → List Extent → Unannotated → Siblings → ℕ → Element → Option Star → Option Shape

@@ -1,6 +1,6 @@
 -- The declaration and the layout of a struct: its fields in order, each at the next multiple of its alignment, and the first that stands against the
 -- rules or passes a limit (C99 6.7.2.1 with natural alignment, and the dependent fields and tagged unions of Deputy, ESOP 2007).
-use Rattle.std.specs.Prelude.{◌≡◌, ℕ, ◌+◌, ◌*◌, nat_lt, nat_le, Bool, true, false, not, ◌&&◌, ◌||◌, ◌==◌, if◌then◌else◌, List, [], ◌∷◌, ◌++◌, length, ℤ, pos, neg_ℤ, max, Option, Some, None, is_some, option_map, unwrap_or, slice_get, bytes_eq, Result, Ok, Err}
+use Rattle.std.specs.Prelude.{◌≡◌, ◌≤◌, ℕ, ◌+◌, ◌*◌, nat_lt, nat_le, Bool, true, false, not, ◌&&◌, ◌||◌, ◌==◌, if◌then◌else◌, List, [], ◌∷◌, ◌++◌, length, ℤ, pos, neg_ℤ, max, min, ◌^◌, ◌-◌, Option, Some, None, is_some, option_map, unwrap_or, slice_get, bytes_eq, Result, Ok, Err}
 use Rattle.std.specs.List.{list_any}
 use Rattle.std.specs.Ordering.{int_eq}
 use Rattle.c_tree.specs.declared.items.Arm.{Arm}
@@ -19,6 +19,10 @@ use Rattle.checked_tree.specs.declared.shapes.StructShape.{StructShape}
 use Rattle.checked_tree.specs.declared.shapes.UnionShape.{UnionShape}
 use Rattle.checked_tree.specs.Numbers.{is_of}
 use Rattle.deputy_types.specs.declared.extent.Extent.{Extent}
+use Rattle.deputy_types.specs.declared.laying.Arms.{Arms}
+use Rattle.deputy_types.specs.declared.laying.Laid.{Laid}
+use Rattle.deputy_types.specs.declared.laying.Laying.{Laying}
+use Rattle.deputy_types.specs.declared.laying.Scope.{Scope}
 use Rattle.deputy_types.specs.declared.refusal.TypeRefusal.{TypeRefusal}
 use Rattle.deputy_types.specs.declared.refusal.TypeRefusal.TheVariants as refusal
 use Rattle.deputy_types.specs.declared.sibling.MemberName.{MemberName}
@@ -66,24 +70,20 @@ abbrev pub with_arm_siblings : ℕ → Siblings → List Arm → Siblings
 with_arm_siblings part siblings [] = siblings
 with_arm_siblings part siblings (a ∷ arms) = with_arm_siblings part (with_sibling siblings (record { part = Some part; name = a.name }) role.Other) arms
 
+-- the number of the union behind the one with this number. Unions have numbers below 2^32; a text has far fewer
+abbrev pub next_part : ℕ → ℕ
+next_part part = min (part + 1) (2 ^ 32 - 1)
+
 -- the siblings of a struct: its fields and arms, behind those of the fields before; the next union has the number `part`
 abbrev pub field_siblings : Types → List (List ℕ) → ℕ → Siblings → List Field → Siblings
 field_siblings types tags part siblings [] = siblings
 field_siblings types tags part siblings (field.Plain n d ∷ fields) = field_siblings types tags part (with_field_sibling types tags siblings d) fields
-field_siblings types tags part siblings (field.Union n arms name ∷ fields) = field_siblings types tags (part + 1) (with_arm_siblings part siblings arms) fields
+field_siblings types tags part siblings (field.Union n arms name ∷ fields) = field_siblings types tags (next_part part) (with_arm_siblings part siblings arms) fields
 
 unfoldable pub struct_siblings : Types → List Field → Siblings
 struct_siblings types fields = field_siblings types (tags_of [] fields) 0 no_siblings fields
 
--- a struct so far: its members, its unions with their names, its end, its alignment, and how many fields it has
-pub record Laying : Type 0 where
-  pub members : List Member
-  pub unions : List UnionShape
-  pub names : List (List ℕ)
-  pub end : ℕ
-  pub align : ℕ
-  pub fields : ℕ
-
+-- a struct so far: nothing
 abbrev pub empty_struct : Laying
 empty_struct = record { members = []; unions = []; names = []; end = 0; align = 1; fields = 0 }
 
@@ -93,6 +93,17 @@ pub record Surroundings : Type 0 where
   pub extents : List Extent
   pub number : ℕ
   pub siblings : Siblings
+
+abbrev pub around : Scope → Surroundings
+around at = record { types = at.types.now; extents = at.extents.now; number = at.number; siblings = at.siblings.now }
+
+-- what holds of a struct so far: it is within the limits
+pub record IsLaying (x : Laying) : Type 0 where
+  pub end : x.end ≤ 65536
+  pub least : 1 ≤ x.align
+  pub greatest : x.align ≤ 4
+  pub unions : length x.unions ≤ x.fields
+  pub fields : x.fields ≤ 64
 
 -- a number that was found
 abbrev pub is_number : ℕ → Option ℕ → Bool
@@ -152,10 +163,13 @@ placed laying line x count extent = and_ok (within_limits line laying.fields (ro
 unfoldable pub is_new_field : Surroundings → Laying → List ℕ → Bool
 is_new_field at laying name = is_first at.siblings (length laying.members) None name && not (list_any (bytes_eq name) laying.names)
 
+-- a shape and a count, where both are there
+abbrev pub counted : Option Shape → Option ℕ → Option (Shape × ℕ)
+counted x count = and_then x (λ a. option_map (λ n. (a, n)) count)
+
 -- the shape and the count of a field, where it meets the rules
 unfoldable pub field_declared : Surroundings → Laying → Declaration → Option (Shape × ℕ)
-field_declared at laying d = if is_new_field at laying d.name
-    then and_then (field_shape at (length laying.members) d) (λ x. option_map (λ n. (x, n)) (element_count d.size)) else None
+field_declared at laying d = if is_new_field at laying d.name then counted (field_shape at (length laying.members) d) (element_count d.size) else None
 
 -- with a field that is no union
 unfoldable pub with_plain : Surroundings → Laying → ℕ → Declaration → Result Laying TypeRefusal
@@ -172,12 +186,6 @@ abbrev pub const_value : Const → ℤ
 const_value (const.Number n) = pos n.value
 const_value (const.Negative n) = neg_ℤ (pos n.value)
 const_value (const.Character c) = pos c
-
--- the arms of a union so far: the members, the number of the tag, and the constants
-pub record Arms : Type 0 where
-  pub members : List Member
-  pub tag : Option ℕ
-  pub values : List ℤ
 
 -- a tag before the union
 abbrev pub tag_at : ℕ → ℕ → Role → Option ℕ
@@ -250,7 +258,7 @@ unfoldable pub with_union_of : Laying → List ℕ → Extent → ℕ → Arms �
 with_union_of laying name extent end arms = record {
   members = arms.members;
   unions = laying.unions ++ (record { offset = round_up_to extent.align laying.end; size = extent.bytes; tag = unwrap_or arms.tag 0 }) ∷ [];
-  names = laying.names ++ name ∷ [];
+  names = with_name laying.names name;
   end = end;
   align = max laying.align extent.align;
   fields = laying.fields + 1;
@@ -283,11 +291,6 @@ with_fields_in_turn at laying [] = Ok laying
 with_fields_in_turn at laying (x ∷ xs) = and_ok (with_any_field at laying x) (λ next. with_fields_in_turn at next xs)
 
 -- a struct that was laid out
-pub record Laid : Type 0 where
-  pub shape : StructShape
-  pub extent : Extent
-  pub names : StructNames
-
 unfoldable pub laid_out : Types → List Field → Siblings → Laying → Laid
 laid_out types fields siblings laying = record {
   shape = record { size = round_up_to laying.align laying.end; members = laying.members; unions = laying.unions };

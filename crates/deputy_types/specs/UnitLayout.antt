@@ -23,6 +23,7 @@ use Rattle.deputy_types.specs.declared.element.Element.{Element}
 use Rattle.deputy_types.specs.declared.element.Element.TheVariants as element
 use Rattle.deputy_types.specs.declared.extent.Extent.{Extent}
 use Rattle.deputy_types.specs.declared.global.GlobalShape.{GlobalShape}
+use Rattle.deputy_types.specs.declared.laying.Laid.{Laid}
 use Rattle.deputy_types.specs.declared.refusal.TypeRefusal.{TypeRefusal}
 use Rattle.deputy_types.specs.declared.refusal.TypeRefusal.TheVariants as refusal
 use Rattle.deputy_types.specs.Declarations.{own, up_to}
@@ -31,7 +32,7 @@ use Rattle.deputy_types.specs.declared.found.Found.{Found}
 use Rattle.deputy_types.specs.Found.{first_found, found_items, struct_names, with_name}
 use Rattle.deputy_types.specs.KernelCalls.{kernel_named}
 use Rattle.deputy_types.specs.Options.{and_then}
-use Rattle.deputy_types.specs.StructLayout.{and_ok, unless, or_no_decl, element_count, const_value, Laid, struct_laid}
+use Rattle.deputy_types.specs.StructLayout.{and_ok, unless, or_no_decl, element_count, const_value, struct_laid}
 use Rattle.deputy_types.specs.declared.struct_names.StructNames.{StructNames}
 use Rattle.deputy_types.specs.Table.{Table, elem_size}
 use Rattle.deputy_types.specs.declared.types.Types.{Types}

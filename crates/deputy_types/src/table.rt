@@ -1,15 +1,20 @@
 //! `TypeTable`: the types of a text, and what the rules look up in it.
-ghost use Rattle.std.specs.Prelude.{◌≡◌, option_copied};
+ghost use Rattle.std.specs.Prelude.{◌≡◌, IfOk, option_copied};
+ghost use Rattle.deputy_types.specs.Declarations as declarations;
 ghost use Rattle.deputy_types.specs.Extents.{AreExtents};
 ghost use Rattle.deputy_types.specs.Table as table;
 
 use crate::dependence::{any_names, are_tagged_by};
 use crate::elem_shapes::{elem_size, size_behind};
-use crate::{Element, Extent, NameList, StructNames, Types, base_key, type_key};
+use crate::{
+    Element, Extent, NameList, Role, Siblings, StructNames, Types, Unannotated, base_key,
+    declared_role, type_key, typed_shape,
+};
 use c_tree::TypeName;
 use checked_tree::{ImageBlock, Member, Shape, StructShape, UnionShape};
-use sd_base::Name;
+use sd_base::{Memory, Name};
 use sqlite_items::Items;
+use std::alloc::Global;
 use std::marker::Model;
 
 /// Where a global lies.
@@ -209,6 +214,29 @@ impl TypeTable {
         ensures { result ≡ table.element_at self.now elem }
     {
         self.types.elements.get(elem)
+    }
+
+    /// The shape that a type name declares for the sibling at `place`. None where no rule derives it. A declaration with constant annotations alone has no
+    /// siblings.
+    pub fn declared_shape(
+        &self,
+        alloc: Global,
+        plain: Unannotated,
+        siblings: &Siblings,
+        place: u32,
+        name: &TypeName,
+    ) -> Result<Option<Shape>, Memory>
+        ensures { IfOk result (λ shape. shape ≡ declarations.declared_shape self.now plain siblings.now place name.now) }
+    {
+        let extents = self.extents.as_slice();
+        typed_shape(alloc, &self.types, extents, plain, siblings, place, name)
+    }
+
+    /// What an annotation can make of a declaration: an array or not, a tag or not.
+    pub fn declared_role(&self, array: bool, tag: bool, name: &TypeName) -> Role
+        ensures { result ≡ declarations.declared_role self.now.types array tag name.now }
+    {
+        declared_role(&self.types, array, tag, name)
     }
 
     /// A member of a struct. None where there is none.

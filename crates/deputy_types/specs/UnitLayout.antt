@@ -1,5 +1,5 @@
 -- The declarations of a whole text in turn, its load image and its table of types, or the first refusal.
-use Rattle.std.specs.Prelude.{◌≡◌, ℕ, ◌+◌, ◌-◌, ◌*◌, nat_lt, nat_le, Bool, true, false, not, ◌&&◌, ◌||◌, ◌==◌, if◌then◌else◌, List, [], ◌∷◌, ◌++◌, length, map, replicate, ℤ, pos, Option, Some, None, is_some, option_map, unwrap_or, slice_get, bytes_eq, Result, Ok, Err}
+use Rattle.std.specs.Prelude.{◌≡◌, ℕ, ◌≤◌, ◌+◌, ◌-◌, ◌*◌, nat_lt, nat_le, Bool, true, false, not, ◌&&◌, ◌||◌, ◌==◌, if◌then◌else◌, List, [], ◌∷◌, ◌++◌, length, map, replicate, ℤ, pos, Option, Some, None, is_some, option_map, unwrap_or, slice_get, bytes_eq, Result, Ok, Err}
 use Rattle.std.specs.List.{list_any}
 use Rattle.std.specs.Ordering.{int_eq}
 use Rattle.c_tree.specs.declared.items.Const.{Const}
@@ -23,11 +23,12 @@ use Rattle.deputy_types.specs.declared.element.Element.{Element}
 use Rattle.deputy_types.specs.declared.element.Element.TheVariants as element
 use Rattle.deputy_types.specs.declared.extent.Extent.{Extent}
 use Rattle.deputy_types.specs.declared.global.GlobalShape.{GlobalShape}
+use Rattle.deputy_types.specs.declared.load_image.Image.{Image}
 use Rattle.deputy_types.specs.declared.laying.Laid.{Laid}
 use Rattle.deputy_types.specs.declared.refusal.TypeRefusal.{TypeRefusal}
 use Rattle.deputy_types.specs.declared.refusal.TypeRefusal.TheVariants as refusal
 use Rattle.deputy_types.specs.Declarations.{own, up_to}
-use Rattle.deputy_types.specs.Extents.{key_extent, round_up_to}
+use Rattle.deputy_types.specs.Extents.{key_extent, round_up_to, AreExtents}
 use Rattle.deputy_types.specs.declared.found.Found.{Found}
 use Rattle.deputy_types.specs.Found.{first_found, found_items, struct_names, with_name}
 use Rattle.deputy_types.specs.KernelCalls.{kernel_named}
@@ -36,17 +37,16 @@ use Rattle.deputy_types.specs.StructLayout.{and_ok, unless, or_no_decl, element_
 use Rattle.deputy_types.specs.declared.struct_names.StructNames.{StructNames}
 use Rattle.deputy_types.specs.Table.{Table, elem_size}
 use Rattle.deputy_types.specs.declared.types.Types.{Types}
+use Rattle.deputy_types.specs.declared.unit_items.Declared.{Declared}
+use Rattle.deputy_types.specs.declared.unit_layout.Structs.{Structs}
 use Rattle.deputy_types.specs.Types.{element_number, type_key}
 
--- the declarations so far: the extents of the structs, the names of globals and functions, the globals, how many functions have bodies, and for
--- each string the line of its function
-pub record Declared : Type 0 where
-  pub extents : List Extent
-  pub taken : List (List ℕ)
-  pub names : List (List ℕ)
-  pub globals : List GlobalShape
-  pub bodies : ℕ
-  pub lines : List ℕ
+-- what holds of the declarations so far: within the limits, each number has room
+pub record IsDeclared (d : Declared) : Type 0 where
+  pub extents : AreExtents d.extents
+  pub structs : length d.extents ≤ 256
+  pub names : length d.names ≤ length d.globals
+  pub blocks : length d.globals + length d.lines ≤ 1024
 
 abbrev pub nothing_declared : Declared
 nothing_declared = record { extents = []; taken = []; names = []; globals = []; bodies = 0; lines = [] }
@@ -82,7 +82,7 @@ global_declared types d g = if is_new_global d g.declaration.name
 
 -- with a global
 unfoldable pub with_global_shape : Declared → List ℕ → GlobalShape → Declared
-with_global_shape d name g = record { extents = d.extents; taken = with_name d.taken name; names = d.names ++ name ∷ []; globals = d.globals ++ g ∷ []; bodies = d.bodies; lines = d.lines }
+with_global_shape d name g = record { extents = d.extents; taken = with_name d.taken name; names = with_name d.names name; globals = d.globals ++ g ∷ []; bodies = d.bodies; lines = d.lines }
 
 -- the same within the limit on globals and strings together
 unfoldable pub with_global : Types → Declared → GlobalItem → Result Declared TypeRefusal
@@ -138,10 +138,9 @@ image_end line base bytes = if nat_lt 524288 (base + bytes) then Err (refusal.Li
 unfoldable pub first_bytes : GlobalShape → List ℕ
 first_bytes g = if int_eq g.value (pos 0) then zeros (g.count * g.size) else low_bytes g.size (low_bits 32 g.value)
 
--- the blocks of the load image so far, and the end of the last one
-pub record Image : Type 0 where
-  pub blocks : List ImageBlock
-  pub end : ℕ
+-- the end of the last block of the load image so far is within the limit
+pub record IsImage (image : Image) : Type 0 where
+  pub end : image.end ≤ 524288
 
 -- the base of the next block
 abbrev pub next_base : Image → ℕ
@@ -175,10 +174,6 @@ unfoldable pub image_of : Declared → List (List ℕ) → Result Image TypeRefu
 image_of d strings = and_ok (with_global_blocks (record { blocks = []; end = 16 }) d.globals) (λ image. with_string_blocks image d.lines strings)
 
 -- the structs, laid out again when the extents of all are known: a bound may count elements of a later struct
-pub record Structs : Type 0 where
-  pub shapes : List StructShape
-  pub names : List StructNames
-
 abbrev pub with_laid : Structs → Laid → Structs
 with_laid structs laid = record { shapes = structs.shapes ++ laid.shape ∷ []; names = structs.names ++ laid.names ∷ [] }
 

@@ -1,4 +1,5 @@
 //! `ElementList`: the types of elements by number.
+ghost use Rattle.std.specs.List.{All};
 ghost use Rattle.std.specs.Prelude.{◌≡◌, [], ◌∷◌, IfOk, IfSome, OnOk, option_copied, slice_get, length};
 ghost use Rattle.deputy_types.specs.declared.element.Element.TheVariants.{Int};
 ghost use Rattle.checked_tree.specs.declared.shapes.Scalar.TheVariants.{U8};
@@ -59,6 +60,14 @@ impl ElementList {
         ensures key { IfSome result IsKey }
     {
         self.keys.get_index(n as usize).copied()
+    }
+
+    /// The types, by number.
+    pub fn keys(&self) -> &[Element]
+        ensures value { result.now ≡ self.now }
+        ensures keys { All IsKey result.now }
+    {
+        self.keys.as_slice()
     }
 
     /// How many there are.

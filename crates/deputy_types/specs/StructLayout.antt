@@ -229,19 +229,31 @@ if_number shape.Address = None
 unfoldable pub arm_shape : Surroundings → Arm → Option Shape
 arm_shape at a = and_then (typed_shape at.types at.extents unannotated.Safe no_siblings 0 a.type_name) if_number
 
--- with an arm of the union with the number `part` at this offset
+-- with an arm of the union with the number `part` at this offset, of this value, tag and shape
+abbrev pub with_arm_of : ℕ → ℕ → Arms → ℤ → ℕ → Shape → Arms
+with_arm_of part offset arms value k x = record {
+  members = arms.members ++ (record { offset = offset; count = 1; shape = x; arm = Some (part, value) }) ∷ [];
+  tag = Some k;
+  values = arms.values ++ value ∷ [];
+}
+
+-- with an arm whose tag is the member k
+abbrev pub with_tagged_arm : Surroundings → ℕ → ℕ → Arms → Arm → ℕ → Option Arms
+with_tagged_arm at part offset arms a k = option_map (with_arm_of part offset arms (const_value a.value) k) (arm_shape at a)
+
+-- with an arm of the union with the number `part`, which begins at the member `start` and lies at this offset
 unfoldable pub with_arm : Surroundings → List UnionShape → ℕ → ℕ → ℕ → Arms → Arm → Option Arms
 with_arm at unions part start offset arms a = if is_first at.siblings (length arms.members) (Some part) a.name
-    then and_then (arm_tag at unions start arms a.tag (const_value a.value)) (λ k. option_map (λ x. record {
-      members = arms.members ++ (record { offset = offset; count = 1; shape = x; arm = Some (part, const_value a.value) }) ∷ [];
-      tag = Some k;
-      values = arms.values ++ const_value a.value ∷ [];
-    }) (arm_shape at a)) else None
+    then and_then (arm_tag at unions start arms a.tag (const_value a.value)) (with_tagged_arm at part offset arms a) else None
+
+-- with an arm, or its line where it stands against the rules
+abbrev pub with_next_arm : Surroundings → List UnionShape → ℕ → ℕ → ℕ → Arms → Arm → Result Arms TypeRefusal
+with_next_arm at unions part start offset arms a = or_no_decl a.line (with_arm at unions part start offset arms a)
 
 -- with arms, up to the first that stands against the rules
 abbrev pub with_arms_in_turn : Surroundings → List UnionShape → ℕ → ℕ → ℕ → Arms → List Arm → Result Arms TypeRefusal
 with_arms_in_turn at unions part start offset arms [] = Ok arms
-with_arms_in_turn at unions part start offset arms (a ∷ more) = and_ok (or_no_decl a.line (with_arm at unions part start offset arms a))
+with_arms_in_turn at unions part start offset arms (a ∷ more) = and_ok (with_next_arm at unions part start offset arms a)
     (λ next. with_arms_in_turn at unions part start offset next more)
 
 -- a number that was found, of a member before the next one

@@ -2,6 +2,7 @@
 //! speak of, and the lists that hold names and types by number.
 #![tactic(auto)]
 
+mod arms;
 mod asked;
 mod bounds;
 mod derived;
@@ -32,6 +33,7 @@ mod table;
 mod typed_shapes;
 mod types;
 
+pub use arms::const_value;
 pub use asked::{Asked, AskedCond};
 pub use derived::{
     ArrayPlace, Derived, FoundArm, Place, Pointed, Refusal, Source, UnionPlace, Value, Whole,

@@ -265,27 +265,26 @@ is_before m (Some k) = nat_lt k m
 unfoldable pub is_new_union : Surroundings → Laying → List ℕ → Bool
 is_new_union at laying name = not (list_any (bytes_eq name) laying.names || is_before (length laying.members) (member_number at.siblings.names None name))
 
--- a struct with a union of this extent whose arms were read
-unfoldable pub with_union_of : Laying → List ℕ → Extent → ℕ → Arms → Laying
-with_union_of laying name extent end arms = record {
+-- a struct with a union at this offset, of this extent and end, whose arms were read
+unfoldable pub with_union_of : Laying → List ℕ → ℕ → Extent → ℕ → Arms → Laying
+with_union_of laying name offset extent end arms = record {
   members = arms.members;
-  unions = laying.unions ++ (record { offset = round_up_to extent.align laying.end; size = extent.bytes; tag = unwrap_or arms.tag 0 }) ∷ [];
+  unions = laying.unions ++ (record { offset = offset; size = extent.bytes; tag = unwrap_or arms.tag 0 }) ∷ [];
   names = with_name laying.names name;
   end = end;
   align = max laying.align extent.align;
   fields = laying.fields + 1;
 }
 
--- a struct with a union of this extent and end: its arms in turn
-unfoldable pub with_union_arms : Surroundings → Laying → List Arm → List ℕ → Extent → ℕ → Result Laying TypeRefusal
-with_union_arms at laying arms name extent end = and_ok (with_arms_in_turn at laying.unions (length laying.unions) (length laying.members)
-    (round_up_to extent.align laying.end) (record { members = laying.members; tag = None; values = [] }) arms)
-    (λ read. Ok (with_union_of laying name extent end read))
+-- a struct with a union at this offset, of this extent and end: its arms in turn
+unfoldable pub with_union_arms : Surroundings → Laying → List Arm → List ℕ → ℕ → Extent → ℕ → Result Laying TypeRefusal
+with_union_arms at laying arms name offset extent end = and_ok (with_arms_in_turn at laying.unions (length laying.unions) (length laying.members) offset
+    (record { members = laying.members; tag = None; values = [] }) arms) (λ read. Ok (with_union_of laying name offset extent end read))
 
 -- with a union of this extent: the limits are met at its own line, before its arms
 unfoldable pub with_union_at : Surroundings → Laying → ℕ → List Arm → List ℕ → Extent → Result Laying TypeRefusal
 with_union_at at laying line arms name extent = and_ok (within_limits line laying.fields (round_up_to extent.align laying.end + extent.bytes))
-    (λ end. with_union_arms at laying arms name extent end)
+    (with_union_arms at laying arms name (round_up_to extent.align laying.end) extent)
 
 -- with a union
 unfoldable pub with_union : Surroundings → Laying → ℕ → List Arm → List ℕ → Result Laying TypeRefusal

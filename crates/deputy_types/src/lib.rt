@@ -32,6 +32,7 @@ mod struct_siblings;
 mod table;
 mod typed_shapes;
 mod types;
+mod unions;
 
 pub use arms::const_value;
 pub use asked::{Asked, AskedCond};

@@ -1,6 +1,6 @@
 -- The declaration and the layout of a struct: its fields in order, each at the next multiple of its alignment, and the first that stands against the
 -- rules or passes a limit (C99 6.7.2.1 with natural alignment, and the dependent fields and tagged unions of Deputy, ESOP 2007).
-use Rattle.std.specs.Prelude.{◌≡◌, ◌≤◌, ℕ, ◌+◌, ◌*◌, nat_lt, nat_le, Bool, true, false, not, ◌&&◌, ◌||◌, ◌==◌, if◌then◌else◌, List, [], ◌∷◌, ◌++◌, length, ℤ, pos, neg_ℤ, max, min, ◌^◌, ◌-◌, Option, Some, None, is_some, option_map, unwrap_or, slice_get, bytes_eq, Result, Ok, Err}
+use Rattle.std.specs.Prelude.{◌≡◌, ◌≢◌, ◌≤◌, ℕ, ◌+◌, ◌*◌, nat_lt, nat_le, Bool, true, false, not, ◌&&◌, ◌||◌, ◌==◌, if◌then◌else◌, List, [], ◌∷◌, ◌++◌, length, ℤ, pos, neg_ℤ, max, min, ◌^◌, ◌-◌, Option, Some, None, is_some, option_map, unwrap_or, slice_get, bytes_eq, Result, Ok, Err}
 use Rattle.std.specs.List.{list_any}
 use Rattle.std.specs.Ordering.{int_eq}
 use Rattle.c_tree.specs.declared.items.Arm.{Arm}
@@ -97,11 +97,12 @@ pub record Surroundings : Type 0 where
 abbrev pub around : Scope → Surroundings
 around at = record { types = at.types.now; extents = at.extents.now; number = at.number; siblings = at.siblings.now }
 
--- what holds of a struct so far: it is within the limits
+-- what holds of a struct so far: it is within the limits, and its alignment is 1, 2 or 4
 pub record IsLaying (x : Laying) : Type 0 where
   pub end : x.end ≤ 65536
   pub least : 1 ≤ x.align
   pub greatest : x.align ≤ 4
+  pub other : x.align ≢ 3
   pub unions : length x.unions ≤ x.fields
   pub fields : x.fields ≤ 64
 
@@ -318,8 +319,11 @@ abbrev pub unless : {A : Type 0} → Option TypeRefusal → Result A TypeRefusal
 unless None outcome = outcome
 unless (Some e) outcome = Err e
 
+-- the layout of a struct by its siblings
+abbrev pub laid_with : Types → List Extent → ℕ → List Field → Siblings → Result Laid TypeRefusal
+laid_with types extents number fields siblings = and_ok (with_fields_in_turn (record { types = types; extents = extents; number = number; siblings = siblings }) empty_struct fields)
+    (λ laying. Ok (laid_out types fields siblings laying))
+
 -- the layout of the struct with this number, behind structs of these extents
 unfoldable pub struct_laid : Types → List Extent → ℕ → StructItem → Result Laid TypeRefusal
-struct_laid types extents number s = unless (head_of_struct types number s)
-    (and_ok (with_fields_in_turn (record { types = types; extents = extents; number = number; siblings = struct_siblings types s.fields }) empty_struct s.fields)
-    (λ laying. Ok (laid_out types s.fields (struct_siblings types s.fields) laying)))
+struct_laid types extents number s = unless (head_of_struct types number s) (laid_with types extents number s.fields (struct_siblings types s.fields))

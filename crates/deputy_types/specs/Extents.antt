@@ -1,5 +1,5 @@
 -- Sizes and alignments (the data layout of C99, 6.2.8, with natural alignment).
-use Rattle.std.specs.Prelude.{ℕ, ◌≤◌, ◌+◌, ◌-◌, ◌*◌, ◌/◌, max, List, [], ◌∷◌, Option, Some, None, option_map, unwrap_or, slice_get}
+use Rattle.std.specs.Prelude.{ℕ, ◌≤◌, ◌≢◌, ◌+◌, ◌-◌, ◌*◌, ◌/◌, max, List, [], ◌∷◌, Option, Some, None, option_map, unwrap_or, slice_get}
 use Rattle.c_tree.specs.declared.types.Star.{Star}
 use Rattle.c_tree.specs.declared.types.TypeName.{TypeName}
 use Rattle.checked_tree.specs.declared.shapes.Scalar.{Scalar}
@@ -62,11 +62,12 @@ round_up_to align n = (n + (align - 1)) / align * align
 abbrev pub greater : Extent → Extent → Extent
 greater a b = record { bytes = max a.bytes b.bytes; align = max a.align b.align }
 
--- an extent as structs, numbers and pointers have it
+-- an extent as structs, numbers and pointers have it: its alignment is 1, 2 or 4
 pub record IsExtent (x : Extent) : Type 0 where
   pub bytes : x.bytes ≤ 65536
   pub least : 1 ≤ x.align
   pub greatest : x.align ≤ 4
+  pub other : x.align ≢ 3
 
 -- extents of structs by number
 pub record AreExtents (extents : List Extent) : Type 0 where

@@ -1,6 +1,6 @@
 -- The declaration and the layout of a struct: its fields in order, each at the next multiple of its alignment, and the first that stands against the
 -- rules or passes a limit (C99 6.7.2.1 with natural alignment, and the dependent fields and tagged unions of Deputy, ESOP 2007).
-use Rattle.std.specs.Prelude.{◌≡◌, ◌≤◌, ℕ, ◌+◌, ◌*◌, nat_lt, nat_le, Bool, true, false, not, ◌&&◌, ◌||◌, ◌==◌, if◌then◌else◌, List, [], ◌∷◌, ◌++◌, length, ℤ, pos, neg_ℤ, max, min, ◌^◌, ◌-◌, Option, Some, None, is_some, option_map, unwrap_or, slice_get, bytes_eq, Result, Ok, Err}
+use Rattle.std.specs.Prelude.{◌≡◌, ◌≢◌, ◌≤◌, ℕ, ◌+◌, ◌*◌, nat_lt, nat_le, Bool, true, false, not, ◌&&◌, ◌||◌, ◌==◌, if◌then◌else◌, List, [], ◌∷◌, ◌++◌, length, ℤ, pos, neg_ℤ, max, min, ◌^◌, ◌-◌, Option, Some, None, is_some, option_map, unwrap_or, slice_get, bytes_eq, Result, Ok, Err}
 use Rattle.std.specs.List.{list_any}
 use Rattle.std.specs.Ordering.{int_eq}
 use Rattle.c_tree.specs.declared.items.Arm.{Arm}
@@ -97,11 +97,12 @@ pub record Surroundings : Type 0 where
 abbrev pub around : Scope → Surroundings
 around at = record { types = at.types.now; extents = at.extents.now; number = at.number; siblings = at.siblings.now }
 
--- what holds of a struct so far: it is within the limits
+-- what holds of a struct so far: it is within the limits, and its alignment is 1, 2 or 4
 pub record IsLaying (x : Laying) : Type 0 where
   pub end : x.end ≤ 65536
   pub least : 1 ≤ x.align
   pub greatest : x.align ≤ 4
+  pub other : x.align ≢ 3
   pub unions : length x.unions ≤ x.fields
   pub fields : x.fields ≤ 64
 
@@ -229,19 +230,31 @@ if_number shape.Address = None
 unfoldable pub arm_shape : Surroundings → Arm → Option Shape
 arm_shape at a = and_then (typed_shape at.types at.extents unannotated.Safe no_siblings 0 a.type_name) if_number
 
--- with an arm of the union with the number `part` at this offset
+-- with an arm of the union with the number `part` at this offset, of this value, tag and shape
+abbrev pub with_arm_of : ℕ → ℕ → Arms → ℤ → ℕ → Shape → Arms
+with_arm_of part offset arms value k x = record {
+  members = arms.members ++ (record { offset = offset; count = 1; shape = x; arm = Some (part, value) }) ∷ [];
+  tag = Some k;
+  values = arms.values ++ value ∷ [];
+}
+
+-- with an arm whose tag is the member k
+abbrev pub with_tagged_arm : Surroundings → ℕ → ℕ → Arms → Arm → ℕ → Option Arms
+with_tagged_arm at part offset arms a k = option_map (with_arm_of part offset arms (const_value a.value) k) (arm_shape at a)
+
+-- with an arm of the union with the number `part`, which begins at the member `start` and lies at this offset
 unfoldable pub with_arm : Surroundings → List UnionShape → ℕ → ℕ → ℕ → Arms → Arm → Option Arms
 with_arm at unions part start offset arms a = if is_first at.siblings (length arms.members) (Some part) a.name
-    then and_then (arm_tag at unions start arms a.tag (const_value a.value)) (λ k. option_map (λ x. record {
-      members = arms.members ++ (record { offset = offset; count = 1; shape = x; arm = Some (part, const_value a.value) }) ∷ [];
-      tag = Some k;
-      values = arms.values ++ const_value a.value ∷ [];
-    }) (arm_shape at a)) else None
+    then and_then (arm_tag at unions start arms a.tag (const_value a.value)) (with_tagged_arm at part offset arms a) else None
+
+-- with an arm, or its line where it stands against the rules
+abbrev pub with_next_arm : Surroundings → List UnionShape → ℕ → ℕ → ℕ → Arms → Arm → Result Arms TypeRefusal
+with_next_arm at unions part start offset arms a = or_no_decl a.line (with_arm at unions part start offset arms a)
 
 -- with arms, up to the first that stands against the rules
 abbrev pub with_arms_in_turn : Surroundings → List UnionShape → ℕ → ℕ → ℕ → Arms → List Arm → Result Arms TypeRefusal
 with_arms_in_turn at unions part start offset arms [] = Ok arms
-with_arms_in_turn at unions part start offset arms (a ∷ more) = and_ok (or_no_decl a.line (with_arm at unions part start offset arms a))
+with_arms_in_turn at unions part start offset arms (a ∷ more) = and_ok (with_next_arm at unions part start offset arms a)
     (λ next. with_arms_in_turn at unions part start offset next more)
 
 -- a number that was found, of a member before the next one
@@ -253,27 +266,26 @@ is_before m (Some k) = nat_lt k m
 unfoldable pub is_new_union : Surroundings → Laying → List ℕ → Bool
 is_new_union at laying name = not (list_any (bytes_eq name) laying.names || is_before (length laying.members) (member_number at.siblings.names None name))
 
--- a struct with a union of this extent whose arms were read
-unfoldable pub with_union_of : Laying → List ℕ → Extent → ℕ → Arms → Laying
-with_union_of laying name extent end arms = record {
+-- a struct with a union at this offset, of this extent and end, whose arms were read
+unfoldable pub with_union_of : Laying → List ℕ → ℕ → Extent → ℕ → Arms → Laying
+with_union_of laying name offset extent end arms = record {
   members = arms.members;
-  unions = laying.unions ++ (record { offset = round_up_to extent.align laying.end; size = extent.bytes; tag = unwrap_or arms.tag 0 }) ∷ [];
+  unions = laying.unions ++ (record { offset = offset; size = extent.bytes; tag = unwrap_or arms.tag 0 }) ∷ [];
   names = with_name laying.names name;
   end = end;
   align = max laying.align extent.align;
   fields = laying.fields + 1;
 }
 
--- a struct with a union of this extent and end: its arms in turn
-unfoldable pub with_union_arms : Surroundings → Laying → List Arm → List ℕ → Extent → ℕ → Result Laying TypeRefusal
-with_union_arms at laying arms name extent end = and_ok (with_arms_in_turn at laying.unions (length laying.unions) (length laying.members)
-    (round_up_to extent.align laying.end) (record { members = laying.members; tag = None; values = [] }) arms)
-    (λ read. Ok (with_union_of laying name extent end read))
+-- a struct with a union at this offset, of this extent and end: its arms in turn
+unfoldable pub with_union_arms : Surroundings → Laying → List Arm → List ℕ → ℕ → Extent → ℕ → Result Laying TypeRefusal
+with_union_arms at laying arms name offset extent end = and_ok (with_arms_in_turn at laying.unions (length laying.unions) (length laying.members) offset
+    (record { members = laying.members; tag = None; values = [] }) arms) (λ read. Ok (with_union_of laying name offset extent end read))
 
 -- with a union of this extent: the limits are met at its own line, before its arms
 unfoldable pub with_union_at : Surroundings → Laying → ℕ → List Arm → List ℕ → Extent → Result Laying TypeRefusal
 with_union_at at laying line arms name extent = and_ok (within_limits line laying.fields (round_up_to extent.align laying.end + extent.bytes))
-    (λ end. with_union_arms at laying arms name extent end)
+    (with_union_arms at laying arms name (round_up_to extent.align laying.end) extent)
 
 -- with a union
 unfoldable pub with_union : Surroundings → Laying → ℕ → List Arm → List ℕ → Result Laying TypeRefusal
@@ -307,8 +319,11 @@ abbrev pub unless : {A : Type 0} → Option TypeRefusal → Result A TypeRefusal
 unless None outcome = outcome
 unless (Some e) outcome = Err e
 
+-- the layout of a struct by its siblings
+abbrev pub laid_with : Types → List Extent → ℕ → List Field → Siblings → Result Laid TypeRefusal
+laid_with types extents number fields siblings = and_ok (with_fields_in_turn (record { types = types; extents = extents; number = number; siblings = siblings }) empty_struct fields)
+    (λ laying. Ok (laid_out types fields siblings laying))
+
 -- the layout of the struct with this number, behind structs of these extents
 unfoldable pub struct_laid : Types → List Extent → ℕ → StructItem → Result Laid TypeRefusal
-struct_laid types extents number s = unless (head_of_struct types number s)
-    (and_ok (with_fields_in_turn (record { types = types; extents = extents; number = number; siblings = struct_siblings types s.fields }) empty_struct s.fields)
-    (λ laying. Ok (laid_out types s.fields (struct_siblings types s.fields) laying)))
+struct_laid types extents number s = unless (head_of_struct types number s) (laid_with types extents number s.fields (struct_siblings types s.fields))

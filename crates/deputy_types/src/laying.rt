@@ -4,6 +4,7 @@ use checked_tree::{Member, StructShape, UnionShape};
 use sqlite_items::Items;
 
 /// What a struct's fields are read with.
+#[derive(Clone, Copy)]
 pub(crate) struct Scope<'a> {
     /// The types of the text.
     pub types: &'a Types,

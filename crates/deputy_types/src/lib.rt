@@ -2,6 +2,7 @@
 //! speak of, and the lists that hold names and types by number.
 #![tactic(auto)]
 
+mod arms;
 mod asked;
 mod bounds;
 mod dependence;
@@ -25,6 +26,7 @@ mod keys;
 mod laying;
 mod load_image;
 mod member_list;
+mod member_types;
 mod name_list;
 mod naming;
 mod refusal;
@@ -38,10 +40,12 @@ mod struct_siblings;
 mod table;
 mod typed_shapes;
 mod types;
+mod unions;
 mod unit_globals;
 mod unit_items;
 mod unit_layout;
 
+pub use arms::const_value;
 pub use asked::{Asked, AskedCond};
 pub use dependence::has_names;
 pub use derived::{
@@ -71,7 +75,6 @@ pub use roles::declared_role;
 pub use sibling::{MemberName, Role, Unannotated};
 pub use siblings::Siblings;
 pub use signature::{Returned, Signature};
-pub use struct_layout::const_value;
 pub use struct_names::StructNames;
 pub use table::{GlobalPlace, TypeTable};
 pub use typed_shapes::typed_shape;

@@ -6,3 +6,4 @@ pub mod StatementForms
 pub mod StatementExamples
 pub mod FoundBlocks
 pub mod KeyCounts
+pub mod DeclaredFacts

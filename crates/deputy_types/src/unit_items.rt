@@ -120,7 +120,7 @@ fn with_taken(mut declared: Declared, name: &Name) -> Result<Declared, Memory>
 fn add_lines(lines: &mut Items<u32>, line: u32, strings: usize) -> Result<(), Memory>
     ensures { OnOk result (lines.new ≡ lines.old ++ replicate (strings - length lines.old) line) }
 {
-    for _ in lines.len()..strings {
+    for _ in 0..strings.saturating_sub(lines.len()) {
         lines.push(line)?;
     }
     Ok(())

@@ -7,3 +7,4 @@ pub mod StatementExamples
 pub mod FoundBlocks
 pub mod KeyCounts
 pub mod DeclaredFacts
+pub mod WordBytes

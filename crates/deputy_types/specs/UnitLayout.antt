@@ -146,32 +146,42 @@ pub record IsImage (image : Image) : Type 0 where
 abbrev pub next_base : Image → ℕ
 next_base image = round_up_to 16 image.end
 
+-- with a block, which ends there
+abbrev pub with_block : Image → ImageBlock → ℕ → Image
+with_block image block end = record { blocks = image.blocks ++ block ∷ []; end = end }
+
+-- the block of a global at this base
+abbrev pub global_block : GlobalShape → ℕ → ImageBlock
+global_block g base = record { base = base; size = g.count * g.size; elem = g.elem; count = g.count; nullterm = false; bytes = first_bytes g }
+
 -- with the block of a global
 unfoldable pub with_global_block : Image → GlobalShape → Result Image TypeRefusal
-with_global_block image g = and_ok (image_end g.line (next_base image) (g.count * g.size)) (λ end. Ok (record {
-  blocks = image.blocks ++ (record { base = next_base image; size = g.count * g.size; elem = g.elem; count = g.count; nullterm = false; bytes = first_bytes g }) ∷ [];
-  end = end;
-}))
+with_global_block image g = and_ok (image_end g.line (next_base image) (g.count * g.size)) (λ end. Ok (with_block image (global_block g (next_base image)) end))
 
 abbrev pub with_global_blocks : Image → List GlobalShape → Result Image TypeRefusal
 with_global_blocks image [] = Ok image
 with_global_blocks image (g ∷ gs) = and_ok (with_global_block image g) (λ next. with_global_blocks next gs)
 
--- with the block of a string in a function on this line: its bytes and a 0, of the element `char`
+-- the block of a string at this base: its bytes and a 0, of the element `char`
+abbrev pub string_block : List ℕ → ℕ → ImageBlock
+string_block text base = record { base = base; size = length text + 1; elem = 0; count = length text + 1; nullterm = true; bytes = text ++ 0 ∷ [] }
+
+-- with the block of a string in a function on this line
 unfoldable pub with_string_block : Image → ℕ → List ℕ → Result Image TypeRefusal
-with_string_block image line text = and_ok (image_end line (next_base image) (length text + 1)) (λ end. Ok (record {
-  blocks = image.blocks ++ (record { base = next_base image; size = length text + 1; elem = 0; count = length text + 1; nullterm = true; bytes = text ++ 0 ∷ [] }) ∷ [];
-  end = end;
-}))
+with_string_block image line text = and_ok (image_end line (next_base image) (length text + 1)) (λ end. Ok (with_block image (string_block text (next_base image)) end))
 
 abbrev pub with_string_blocks : Image → List ℕ → List (List ℕ) → Result Image TypeRefusal
 with_string_blocks image [] texts = Ok image
 with_string_blocks image (line ∷ lines) [] = Ok image
 with_string_blocks image (line ∷ lines) (text ∷ texts) = and_ok (with_string_block image line text) (λ next. with_string_blocks next lines texts)
 
--- the load image of a text; the bytes 0 to 15 are never granted
+-- no blocks; the bytes 0 to 15 are never granted
+abbrev pub empty_image : Image
+empty_image = record { blocks = []; end = 16 }
+
+-- the load image of a text
 unfoldable pub image_of : Declared → List (List ℕ) → Result Image TypeRefusal
-image_of d strings = and_ok (with_global_blocks (record { blocks = []; end = 16 }) d.globals) (λ image. with_string_blocks image d.lines strings)
+image_of d strings = and_ok (with_global_blocks empty_image d.globals) (λ image. with_string_blocks image d.lines strings)
 
 -- the structs, laid out again when the extents of all are known: a bound may count elements of a later struct
 abbrev pub with_laid : Structs → Laid → Structs

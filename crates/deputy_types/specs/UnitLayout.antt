@@ -187,13 +187,23 @@ image_of d strings = and_ok (with_global_blocks empty_image d.globals) (λ image
 abbrev pub with_laid : Structs → Laid → Structs
 with_laid structs laid = record { shapes = structs.shapes ++ laid.shape ∷ []; names = structs.names ++ laid.names ∷ [] }
 
+abbrev pub no_structs : Structs
+no_structs = record { shapes = []; names = [] }
+
+-- with the struct that is declared next
+abbrev pub with_next_struct : Types → List Extent → Structs → StructItem → Result Structs TypeRefusal
+with_next_struct types extents structs s = and_ok (struct_laid types extents (length structs.shapes) s) (λ laid. Ok (with_laid structs laid))
+
+-- with an item
+abbrev pub with_item_struct : Types → List Extent → Structs → Item → Result Structs TypeRefusal
+with_item_struct types extents structs (item.Struct s) = with_next_struct types extents structs s
+with_item_struct types extents structs (item.Global g) = Ok structs
+with_item_struct types extents structs (item.Function f) = Ok structs
+with_item_struct types extents structs (item.Prototype h) = Ok structs
+
 abbrev pub structs_of : Types → List Extent → Structs → List Item → Result Structs TypeRefusal
 structs_of types extents structs [] = Ok structs
-structs_of types extents structs (item.Struct s ∷ items) = and_ok (struct_laid types extents (length structs.shapes) s)
-    (λ laid. structs_of types extents (with_laid structs laid) items)
-structs_of types extents structs (item.Global g ∷ items) = structs_of types extents structs items
-structs_of types extents structs (item.Function f ∷ items) = structs_of types extents structs items
-structs_of types extents structs (item.Prototype h ∷ items) = structs_of types extents structs items
+structs_of types extents structs (x ∷ items) = and_ok (with_item_struct types extents structs x) (λ next. structs_of types extents next items)
 
 -- the shape of an element
 unfoldable pub elem_shape : List Element → List Extent → Element → Shape
@@ -224,7 +234,7 @@ table_of types d image structs = record {
 -- the structs, the image and the table behind the declarations
 unfoldable pub table_behind : Types → List (List ℕ) → List Item → Declared → Result Table TypeRefusal
 table_behind types strings items d = and_ok (image_of d strings)
-    (λ image. and_ok (structs_of types d.extents (record { shapes = []; names = [] }) items) (λ structs. Ok (table_of types d image structs)))
+    (λ image. and_ok (structs_of types d.extents no_structs items) (λ structs. Ok (table_of types d image structs)))
 
 -- the table of items, with what was found in them
 unfoldable pub table_with : List (List ℕ) → Found → List Item → Result Table TypeRefusal

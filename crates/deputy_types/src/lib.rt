@@ -66,7 +66,6 @@ pub use kernel_names::kernel_named;
 pub use keys::{
     are_constant, base_key, constant_sum, is_char, last_star, pointed_key, stars_key, type_key,
 };
-pub(crate) use load_image::Image;
 pub use member_list::MemberList;
 pub use name_list::NameList;
 pub use naming::{Change, Names, Naming};
@@ -79,4 +78,4 @@ pub use struct_names::StructNames;
 pub use table::{GlobalPlace, TypeTable};
 pub use typed_shapes::typed_shape;
 pub use types::Types;
-pub(crate) use unit_items::Declared;
+pub use unit_layout::layouts;

@@ -4,9 +4,9 @@ ghost use Rattle.deputy_types.specs.Options.{and_then};
 ghost use Rattle.deputy_types.specs.Types.{type_key};
 ghost use Rattle.deputy_types.specs.UnitLayout as spec;
 
+use crate::unit_items::Declared;
 use crate::{
-    Declared, Element, GlobalShape, Types, const_value, element_count, kernel_named, key_extent,
-    type_key,
+    Element, GlobalShape, Types, const_value, element_count, kernel_named, key_extent, type_key,
 };
 use c_tree::{Const, GlobalItem, Number};
 use sd_base::Name;

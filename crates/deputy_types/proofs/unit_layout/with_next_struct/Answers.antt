@@ -10,4 +10,4 @@ one_more : (structs s : Structs) (laid : Laid) → s ≡ with_laid structs laid 
 one_more structs s laid is few = subst (λ (t : Structs). length t.shapes ≤ 256) (sym is) (rw length-append (omega arith))
 
 pub returns-clause-few : goal.returns-clause-few
-returns-clause-few c = one_more _ _ _ c.in_ok-with_laid.ensures (search (rules, laid_number _ _ _ _ _ c.in_ok-laid.ensures.value))
+returns-clause-few c = one_more c.args.structs c.in_ok-with_laid.field-0 c.in_ok-laid.laid c.in_ok-with_laid.ensures (search (rules, laid_number _ _ _ _ _ c.in_ok-laid.ensures.value))

@@ -79,3 +79,6 @@ pub use table::{GlobalPlace, TypeTable};
 pub use typed_shapes::typed_shape;
 pub use types::Types;
 pub use unit_layout::layouts;
+
+#[cfg(test)]
+mod tests;

@@ -5,3 +5,4 @@ pub mod RuleExamples
 pub mod StatementForms
 pub mod StatementExamples
 pub mod LayoutExamples
+pub mod MembersLie

@@ -12,6 +12,7 @@ pub mod Changes
 pub mod MemberTypes
 pub mod Found
 pub mod StructLayout
+pub mod StructLaws
 pub mod Context
 pub mod Deriving
 pub mod Sums

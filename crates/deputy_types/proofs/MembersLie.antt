@@ -1,6 +1,7 @@
--- Each member of a struct that was laid out lies at a multiple of its alignment and ends within the struct.
+-- Each member of a struct that was laid out lies at a multiple of its alignment, behind those before it and within the struct.
 use Rattle.std.proofs.Common.{◌≡◌, ◌≢◌, ◌⊎◌, inl, inr, ℕ, zero, suc, ◌+◌, ◌-◌, ◌*◌, ◌/◌, ◌≤◌, ◌<◌, max, nat_le, nat_lt, Bool, true, false, List, [], ◌∷◌, ◌++◌, length, ℤ, Option, Some, None, Result, Ok, Err, IfOk, option_map, unwrap_or, slice_get, All, refl, sym, ◌∙◌, ap, subst, arith, if◌then◌else◌}
-use Rattle.std.proofs.lemmas.List.Elements.{All-nil, All-push, All-weaker}
+use Rattle.std.proofs.lemmas.List.Elements.{All-nil, All-push, All-tail, All-weaker}
+use Rattle.std.proofs.lemmas.Bool.{eq-eqb}
 use Rattle.std.proofs.lemmas.Option.{slice_get-get_or}
 use Rattle.c_tree.specs.declared.items.Arm.{Arm}
 use Rattle.c_tree.specs.declared.items.Declaration.{Declaration}
@@ -32,7 +33,7 @@ use Rattle.deputy_types.specs.Extents.{IsExtent, AreExtents, natural, no_extent,
 use Rattle.deputy_types.specs.Options.{and_then}
 use Rattle.deputy_types.specs.Siblings.{no_siblings}
 use Rattle.deputy_types.specs.StructLayout.{Surroundings, and_ok, or_no_decl, is_first, is_new_field, field_shape, field_declared, is_complete, if_complete, siblings_of, counted, element_count, within_limits, placed, with_plain, arms_extent, const_value, arm_tag, if_number, arm_shape, with_arm_of, with_tagged_arm, with_arm, with_next_arm, with_arms_in_turn, is_new_union, with_union_of, with_union_arms, with_union_at, with_union, with_any_field, empty_struct, with_fields_in_turn, laid_out, head_of_struct, unless, struct_siblings, laid_with, struct_laid}
-use Rattle.deputy_types.specs.StructLaws.{IsMultiple, shape_extent, LiesWithin, IsLaidOut}
+use Rattle.deputy_types.specs.StructLaws.{IsMultiple, shape_extent, LiesWithin, is_arm_of, IsBefore, AreInOrder, IsLaidOut}
 use Rattle.deputy_types.specs.UnitLayout.{IsAnswer}
 use Rattle.deputy_types.specs.Types.{base_key, element_number, stars_key, front_stars, last_star, pointed_key}
 
@@ -98,7 +99,17 @@ typed_extent types extents plain siblings place t x h = by_stars types.elements 
 -- ---- a field
 record Lie (extents : List Extent) (laying : Laying) : Type 0 where
   members : All (LiesWithin extents laying.end) laying.members
+  order : AreInOrder extents laying.members
   least : 1 ≤ laying.align
+
+in_order_push : (extents : List Extent) (ms : List Member) (x : Member) → AreInOrder extents ms → All (λ m. IsBefore extents m x) ms → AreInOrder extents (ms ++ x ∷ [])
+in_order_push extents [] x order all = (All-nil (IsBefore extents x), tt)
+in_order_push extents (m ∷ ms) x order all =
+    (All-push (IsBefore extents m) ms x order.0 (all 0 m (omega arith)), in_order_push extents ms x order.1 (All-tail (λ k. IsBefore extents k x) m ms all))
+
+-- what ends before a place is before what begins there
+ended_before : (extents : List Extent) (end : ℕ) (m n : Member) → end ≤ n.offset → LiesWithin extents end m → IsBefore extents m n
+ended_before extents end m n h l = inl (omega (arith, l.within))
 
 farther : (extents : List Extent) (n m : ℕ) (x : Member) → n ≤ m → LiesWithin extents n x → LiesWithin extents m x
 farther extents n m x h l = record { aligned = l.aligned; within = omega (arith, l.within) }
@@ -141,6 +152,8 @@ placed_lies extents laying line x count extent out same least lie h =
     } in
     let all : Lie extents next = record {
       members = All-push (LiesWithin extents a.0) laying.members new (All-weaker (LiesWithin extents laying.end) (LiesWithin extents a.0) (λ m. farther extents laying.end a.0 m (omega arith)) laying.members lie.members) here;
+      order = in_order_push extents laying.members new lie.order
+          (All-weaker (LiesWithin extents laying.end) (λ m. IsBefore extents m new) (λ m. ended_before extents laying.end m new above) laying.members lie.members);
       least = omega (arith, lie.least);
     } in
     let e : next ≡ out = cc in subst (λ (o : Laying). Lie extents o) e all
@@ -220,9 +233,22 @@ arm_extent at a x h =
     same_number (shape.Struct s) x h = absurd cc
     same_number shape.Address x h = absurd cc
 
+-- a member that ends before an offset, or is an arm of this union
+abbrev IsReady : List Extent → ℕ → ℕ → Member → Type 0
+IsReady extents part offset m = (m.offset + m.count * (shape_extent extents m.shape).bytes ≤ offset) ⊎ (is_arm_of part m.arm ≡ true)
+
+-- the members of a struct up to an arm of the union with this number, at this offset, that ends at this end
+record ArmsLie (extents : List Extent) (part offset end : ℕ) (arms : Arms) : Type 0 where
+  members : All (LiesWithin extents end) arms.members
+  order : AreInOrder extents arms.members
+  ready : All (IsReady extents part offset) arms.members
+
+ended : (extents : List Extent) (end offset part : ℕ) (m : Member) → end ≤ offset → LiesWithin extents end m → IsReady extents part offset m
+ended extents end offset part m h l = inl (omega (arith, l.within))
+
 arm_lies : (at : Surroundings) (unions : List UnionShape) (part start offset end : ℕ) (arms : Arms) (a : Arm) (out : Arms)
-    → Fits offset end (type_extent at.types at.extents a.type_name) → All (LiesWithin at.extents end) arms.members
-    → with_arm at unions part start offset arms a ≡ Some out → All (LiesWithin at.extents end) out.members
+    → Fits offset end (type_extent at.types at.extents a.type_name) → ArmsLie at.extents part offset end arms
+    → with_arm at unions part start offset arms a ≡ Some out → ArmsLie at.extents part offset end out
 unfolding with_arm
 arm_lies at unions part start offset end arms a out fits lie h =
     let value : ℤ = const_value a.value in
@@ -235,17 +261,22 @@ arm_lies at unions part start offset end arms a out fits lie h =
       aligned = subst (λ (y : Extent). IsMultiple y.align offset) same fits.aligned;
       within = subst (λ (y : Extent). offset + 1 * y.bytes ≤ end) same (omega (arith, fits.within));
     } in
-    let all : All (LiesWithin at.extents end) (arms.members ++ new ∷ []) = All-push (LiesWithin at.extents end) arms.members new lie here in
-    subst (λ (o : Arms). All (LiesWithin at.extents end) o.members) x.2 all
+    let next : Arms = with_arm_of part offset arms value k.0 x.0 in
+    let all : ArmsLie at.extents part offset end next = record {
+      members = All-push (LiesWithin at.extents end) arms.members new lie.members here;
+      order = in_order_push at.extents arms.members new lie.order lie.ready;
+      ready = All-push (IsReady at.extents part offset) arms.members new lie.ready (inr (eq-eqb part part refl));
+    } in
+    subst (λ (o : Arms). ArmsLie at.extents part offset end o) x.2 all
 
 abbrev AllFit : Types → List Extent → ℕ → ℕ → List Arm → Type 0
 AllFit types extents offset end [] = Unit {0}
 AllFit types extents offset end (a ∷ arms) = Fits offset end (type_extent types extents a.type_name) × AllFit types extents offset end arms
 
 arms_lie : (at : Surroundings) (unions : List UnionShape) (part start offset end : ℕ) (arms : Arms) (more : List Arm) (out : Arms)
-    → AllFit at.types at.extents offset end more → All (LiesWithin at.extents end) arms.members
-    → with_arms_in_turn at unions part start offset arms more ≡ Ok out → All (LiesWithin at.extents end) out.members
-arms_lie at unions part start offset end arms [] out fit lie h = let e : arms ≡ out = cc in subst (λ (o : Arms). All (LiesWithin at.extents end) o.members) e lie
+    → AllFit at.types at.extents offset end more → ArmsLie at.extents part offset end arms
+    → with_arms_in_turn at unions part start offset arms more ≡ Ok out → ArmsLie at.extents part offset end out
+arms_lie at unions part start offset end arms [] out fit lie h = let e : arms ≡ out = cc in subst (λ (o : Arms). ArmsLie at.extents part offset end o) e lie
 arms_lie at unions part start offset end arms (a ∷ more) out fit lie h =
     let n = ok_then (with_next_arm at unions part start offset arms a) (λ next. with_arms_in_turn at unions part start offset next more) out h in
     let w = ok_declared a.line (with_arm at unions part start offset arms a) n.0 n.1 in
@@ -328,10 +359,14 @@ union_lies at laying line arms name out extents lie h =
     let none : Arms = record { members = laying.members; tag = None; values = [] } in
     let r = ok_then (with_arms_in_turn at laying.unions (length laying.unions) (length laying.members) offset none arms) (λ read. Ok (with_union_of laying name offset extent a.0 read)) out a.2 in
     let room : Fits offset a.0 extent = record { aligned = rounded extent.align laying.end; within = omega arith } in
-    let before = All-weaker (LiesWithin at.extents laying.end) (LiesWithin at.extents a.0) (λ m. farther at.extents laying.end a.0 m (omega arith)) laying.members lie.members in
+    let before : ArmsLie at.extents (length laying.unions) offset a.0 none = record {
+      members = All-weaker (LiesWithin at.extents laying.end) (LiesWithin at.extents a.0) (λ m. farther at.extents laying.end a.0 m (omega arith)) laying.members lie.members;
+      order = lie.order;
+      ready = All-weaker (LiesWithin at.extents laying.end) (IsReady at.extents (length laying.unions) offset) (λ m. ended at.extents laying.end offset (length laying.unions) m above) laying.members lie.members;
+    } in
     let all = arms_lie at laying.unions (length laying.unions) (length laying.members) offset a.0 none arms r.0 (all_fit at.types at.extents offset a.0 no_extent arms extents no_extent_is room) before r.1 in
     let next : Laying = with_union_of laying name offset extent a.0 r.0 in
-    let lies : Lie at.extents next = record { members = all; least = omega (arith, lie.least) } in
+    let lies : Lie at.extents next = record { members = all.members; order = all.order; least = omega (arith, lie.least) } in
     let same : next ≡ out = cc in subst (λ (o : Laying). Lie at.extents o) same lies
 
 -- ---- a struct
@@ -359,11 +394,12 @@ laid_out-lies types extents number s laid are h =
     let at : Surroundings = record { types = types; extents = extents; number = number; siblings = siblings } in
     let u = unless_ok (head_of_struct types number s) (laid_with types extents number s.fields siblings) laid h in
     let n = ok_then (with_fields_in_turn at empty_struct s.fields) (λ laying. Ok (laid_out types s.fields siblings laying)) laid u in
-    let lie = fields_lie at empty_struct s.fields n.0 are (record { members = All-nil (LiesWithin extents 0); least = omega arith }) n.1 in
+    let lie = fields_lie at empty_struct s.fields n.0 are (record { members = All-nil (LiesWithin extents 0); order = tt; least = omega arith }) n.1 in
     let above = rounded_above n.0.align n.0.end lie.least in
     let next : Laid = laid_out types s.fields siblings n.0 in
     let is : IsLaidOut extents next = record {
       members = All-weaker (LiesWithin extents n.0.end) (LiesWithin extents next.shape.size) (λ m. farther extents n.0.end next.shape.size m above) n.0.members lie.members;
+      order = lie.order;
       size = rounded n.0.align n.0.end;
       bytes = refl;
     } in

@@ -1,6 +1,6 @@
--- What holds of a struct that was laid out: each member lies at a multiple of its alignment and ends within the struct, and so an array of such structs
--- has each of them at a multiple of its alignment.
-use Rattle.std.specs.Prelude.{ℕ, ◌+◌, ◌*◌, ◌≤◌, ◌≡◌, List, All}
+-- What holds of a struct that was laid out: each member lies at a multiple of its alignment, behind those before it and within the struct,
+-- and so does each struct of an array.
+use Rattle.std.specs.Prelude.{ℕ, ◌+◌, ◌*◌, ◌≤◌, ◌≡◌, ◌⊎◌, ◌==◌, Bool, true, false, ℤ, Option, Some, None, List, [], ◌∷◌, All}
 use Rattle.checked_tree.specs.declared.shapes.Member.{Member}
 use Rattle.checked_tree.specs.declared.shapes.Shape.{Shape}
 use Rattle.checked_tree.specs.declared.shapes.Shape.TheVariants as shape
@@ -24,8 +24,28 @@ pub record LiesWithin (extents : List Extent) (end : ℕ) (m : Member) : Type 0 
   pub aligned : IsMultiple (shape_extent extents m.shape).align m.offset
   pub within : m.offset + m.count * (shape_extent extents m.shape).bytes ≤ end
 
--- each member lies so within the struct, whose size is a multiple of its alignment
+-- an arm of the union with this number
+abbrev pub is_arm_of : ℕ → Option (ℕ × ℤ) → Bool
+is_arm_of part None = false
+is_arm_of part (Some arm) = arm.0 == part
+
+-- two arms of one union
+abbrev pub are_of_one_union : Option (ℕ × ℤ) → Option (ℕ × ℤ) → Bool
+are_of_one_union a None = false
+are_of_one_union a (Some b) = is_arm_of b.0 a
+
+-- a member ends before another one begins, or both are arms of one union
+abbrev pub IsBefore : List Extent → Member → Member → Type 0
+IsBefore extents m n = (m.offset + m.count * (shape_extent extents m.shape).bytes ≤ n.offset) ⊎ (are_of_one_union m.arm n.arm ≡ true)
+
+-- each member is so before all that are declared after it: no two share a byte but arms of one union
+abbrev pub AreInOrder : List Extent → List Member → Type 0
+AreInOrder extents [] = Unit {0}
+AreInOrder extents (m ∷ ms) = All (IsBefore extents m) ms × AreInOrder extents ms
+
+-- the members lie in order within the struct, whose size is a multiple of its alignment
 pub record IsLaidOut (extents : List Extent) (laid : Laid) : Type 0 where
   pub members : All (LiesWithin extents laid.shape.size) laid.shape.members
+  pub order : AreInOrder extents laid.shape.members
   pub size : IsMultiple laid.extent.align laid.shape.size
   pub bytes : laid.extent.bytes ≡ laid.shape.size

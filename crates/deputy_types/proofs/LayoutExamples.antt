@@ -1,18 +1,15 @@
 -- Structs at worked examples, laid out as `gcc -m32` lays them out, and those that are refused, with the line.
-use Rattle.std.proofs.Common.{◌≡◌, ℕ, true, false, List, [], ◌∷◌, ℤ, pos, Option, Some, None, Result, Ok, Err, refl}
+use Rattle.std.proofs.Common.{◌≡◌, ℕ, true, false, List, [], ◌∷◌, pos, Option, Some, None, Result, Ok, Err, refl}
 use Rattle.c_tree.specs.declared.items.Arm.{Arm}
-use Rattle.c_tree.specs.declared.items.Const.{Const}
 use Rattle.c_tree.specs.declared.items.Const.TheVariants as const
 use Rattle.c_tree.specs.declared.items.Field.{Field}
 use Rattle.c_tree.specs.declared.items.Field.TheVariants as field
-use Rattle.c_tree.specs.declared.items.StructItem.{StructItem}
 use Rattle.c_tree.specs.declared.limits.LimitKind.TheVariants as limit
 use Rattle.c_tree.specs.declared.types.Annotation.{Annotation}
 use Rattle.c_tree.specs.declared.types.Annotation.TheVariants as annotation
 use Rattle.c_tree.specs.declared.types.Base.{Base}
 use Rattle.c_tree.specs.declared.types.Base.TheVariants as base
 use Rattle.c_tree.specs.declared.types.Number.{Number}
-use Rattle.c_tree.specs.declared.types.Star.{Star}
 use Rattle.c_tree.specs.declared.types.Term.TheVariants as term
 use Rattle.c_tree.specs.declared.types.TypeName.{TypeName}
 use Rattle.c_tree.specs.declared.words.Suffix.TheVariants as suffix
@@ -25,7 +22,6 @@ use Rattle.deputy_types.specs.declared.element.Element.TheVariants as key
 use Rattle.deputy_types.specs.declared.laying.Laid.{Laid}
 use Rattle.deputy_types.specs.declared.refusal.TypeRefusal.{TypeRefusal}
 use Rattle.deputy_types.specs.declared.refusal.TypeRefusal.TheVariants as refusal
-use Rattle.deputy_types.specs.declared.types.Types.{Types}
 use Rattle.deputy_types.specs.Declarations.{with_number, with_term, integer_number, pointer_number, edge_term, bound_end, both_ends, annotated_bounds, pointer_shape, typed_shape, declared_role}
 use Rattle.deputy_types.specs.Extents.{type_extent}
 use Rattle.deputy_types.specs.Found.{with_name}

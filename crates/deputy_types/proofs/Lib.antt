@@ -6,3 +6,4 @@ pub mod StatementForms
 pub mod StatementExamples
 pub mod LayoutExamples
 pub mod MembersLie
+pub mod ZeroFits

@@ -28,3 +28,4 @@ pub mod Operators
 pub mod Expressions
 pub mod UnitLayout
 pub mod Numbering
+pub mod Fitting

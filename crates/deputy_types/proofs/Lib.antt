@@ -5,5 +5,7 @@ pub mod RuleExamples
 pub mod StatementForms
 pub mod StatementExamples
 pub mod LayoutExamples
+pub mod Inversions
 pub mod MembersLie
+pub mod SameExtent
 pub mod ZeroFits

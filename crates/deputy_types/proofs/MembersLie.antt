@@ -33,30 +33,10 @@ use Rattle.deputy_types.specs.Extents.{IsExtent, AreExtents, natural, no_extent,
 use Rattle.deputy_types.specs.Options.{and_then}
 use Rattle.deputy_types.specs.Siblings.{no_siblings}
 use Rattle.deputy_types.specs.StructLayout.{Surroundings, and_ok, or_no_decl, is_first, is_new_field, field_shape, field_declared, is_complete, if_complete, siblings_of, counted, element_count, within_limits, placed, with_plain, arms_extent, const_value, arm_tag, if_number, arm_shape, with_arm_of, with_tagged_arm, with_arm, with_next_arm, with_arms_in_turn, is_new_union, with_union_of, with_union_arms, with_union_at, with_union, with_any_field, empty_struct, with_fields_in_turn, laid_out, head_of_struct, unless, struct_siblings, laid_with, struct_laid}
+use Rattle.deputy_types.proofs.Inversions.{some_then, some_map, if_some, ok_then, ok_declared, if_ok, unless_ok, within_is}
 use Rattle.deputy_types.specs.StructLaws.{IsMultiple, shape_extent, LiesWithin, is_arm_of, IsBefore, AreInOrder, IsLaidOut}
 use Rattle.deputy_types.specs.UnitLayout.{IsAnswer}
 use Rattle.deputy_types.specs.Types.{base_key, element_number, stars_key, front_stars, last_star, pointed_key}
-
--- ---- taking steps apart
-some_then : {A B : Type 0} (o : Option A) (f : A → Option B) (b : B) → and_then o f ≡ Some b → (a : A) × (o ≡ Some a) × (f a ≡ Some b)
-some_then None f b h = absurd cc
-some_then (Some a) f b h = (a, refl, h)
-
-some_map : {A B : Type 0} (o : Option A) (f : A → B) (b : B) → option_map f o ≡ Some b → (a : A) × (o ≡ Some a) × (f a ≡ b)
-some_map None f b h = absurd cc
-some_map (Some a) f b h = (a, refl, cc)
-
-if_some : {A : Type 0} (t : Bool) (x : Option A) (a : A) → (if t then x else None) ≡ Some a → x ≡ Some a
-if_some true x a h = h
-if_some false x a h = absurd cc
-
-ok_then : {A B : Type 0} (r : Result A TypeRefusal) (f : A → Result B TypeRefusal) (b : B) → and_ok r f ≡ Ok b → (a : A) × (r ≡ Ok a) × (f a ≡ Ok b)
-ok_then (Ok a) f b h = (a, refl, h)
-ok_then (Err e) f b h = absurd cc
-
-ok_declared : {A : Type 0} (line : ℕ) (o : Option A) (a : A) → or_no_decl line o ≡ Ok a → o ≡ Some a
-ok_declared line None a h = absurd cc
-ok_declared line (Some x) a h = cc
 
 -- ---- the extent of a type is that of its shape
 plain_extent : (extents : List Extent) (key : Element) (x : Shape) → plain_shape key ≡ Some x → key_extent extents key ≡ shape_extent extents x
@@ -119,15 +99,6 @@ rounded align n = ((n + (align - 1)) / align, refl)
 
 rounded_above : (align n : ℕ) → 1 ≤ align → n ≤ round_up_to align n
 rounded_above align n h = grind arith
-
-two_tests : (a b : Bool) (p q : TypeRefusal) (n out : ℕ) → (if a then Err p else (if b then Err q else Ok n)) ≡ Ok out → n ≡ out
-two_tests true b p q n out h = absurd cc
-two_tests false true p q n out h = absurd cc
-two_tests false false p q n out h = cc
-
-within_is : (line fields end out : ℕ) → within_limits line fields end ≡ Ok out → end ≡ out
-unfolding within_limits
-within_is line fields end out h = two_tests (nat_le 64 fields) (nat_lt 65536 end) (refusal.Limit line limit.Fields) (refusal.Limit line limit.Size) end out h
 
 placed_lies : (extents : List Extent) (laying : Laying) (line : ℕ) (x : Shape) (count : ℕ) (extent : Extent) (out : Laying)
     → extent ≡ shape_extent extents x → 1 ≤ extent.align → Lie extents laying → placed laying line x count extent ≡ Ok out → Lie extents out
@@ -341,10 +312,6 @@ all_fit types extents offset end x (a ∷ arms) h p f =
     let all = arms_is_extent types extents (greater x t) arms h both in
     (fits_less offset end t (arms_extent types extents (greater x t) arms) is all (less_of_both x t _ (arms_grow types extents (greater x t) arms)).1 f, all_fit types extents offset end (greater x t) arms h both f)
 
-if_ok : {A : Type 0} (t : Bool) (r : Result A TypeRefusal) (e : TypeRefusal) (a : A) → (if t then r else Err e) ≡ Ok a → r ≡ Ok a
-if_ok true r e a h = h
-if_ok false r e a h = absurd cc
-
 union_lies : (at : Surroundings) (laying : Laying) (line : ℕ) (arms : List Arm) (name : List ℕ) (out : Laying)
     → AreExtents at.extents → Lie at.extents laying → with_union at laying line arms name ≡ Ok out → Lie at.extents out
 unfolding with_union with_union_at with_union_arms with_union_of
@@ -381,10 +348,6 @@ fields_lie at laying [] out extents lie h = let e : laying ≡ out = cc in subst
 fields_lie at laying (x ∷ fields) out extents lie h =
     let n = ok_then (with_any_field at laying x) (λ next. with_fields_in_turn at next fields) out h in
     fields_lie at n.0 fields out extents (any_lies at laying x n.0 extents lie n.1) n.2
-
-unless_ok : {A : Type 0} (o : Option TypeRefusal) (r : Result A TypeRefusal) (a : A) → unless o r ≡ Ok a → r ≡ Ok a
-unless_ok None r a h = h
-unless_ok (Some e) r a h = absurd cc
 
 pub laid_out-lies : (types : Types) (extents : List Extent) (number : ℕ) (s : StructItem) (laid : Laid)
     → AreExtents extents → struct_laid types extents number s ≡ Ok laid → IsLaidOut extents laid

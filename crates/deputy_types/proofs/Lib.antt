@@ -7,5 +7,6 @@ pub mod StatementExamples
 pub mod LayoutExamples
 pub mod Inversions
 pub mod MembersLie
+pub mod Nested
 pub mod SameExtent
 pub mod ZeroFits

@@ -12,14 +12,7 @@ use Rattle.deputy_types.specs.declared.extent.Extent.{Extent}
 use Rattle.deputy_types.specs.declared.laying.Laid.{Laid}
 use Rattle.deputy_types.specs.Extents.{scalar_extent, struct_extent}
 use Rattle.deputy_types.specs.Fitting.{shape_size, AreNested}
-use Rattle.deputy_types.specs.StructLaws.{shape_extent, LiesWithin, IsLaidOut}
-
--- a struct that was laid out with these extents, its own among them
-pub record IsStruct (extents : List Extent) (s : ℕ) (t : StructShape) : Type 0 where
-  pub laid : Laid
-  pub shape : laid.shape ≡ t
-  pub extent : struct_extent extents s ≡ laid.extent
-  pub lies : IsLaidOut extents laid
+use Rattle.deputy_types.specs.StructLaws.{shape_extent, LiesWithin, IsLaidOut, IsStruct}
 
 scalar_same : (s : Scalar) → scalar_size s ≡ (scalar_extent s).bytes
 scalar_same scalar.Void = refl

@@ -27,12 +27,9 @@ use Rattle.deputy_types.specs.Extents.{no_extent, struct_extent, key_extent, sta
 use Rattle.deputy_types.specs.Options.{and_then}
 use Rattle.deputy_types.specs.Siblings.{no_siblings}
 use Rattle.deputy_types.specs.StructLayout.{Surroundings, is_first, is_new_field, field_shape, field_declared, is_complete, if_complete, siblings_of, counted, element_count, within_limits, or_no_decl, placed, with_plain, arms_extent, const_value, arm_tag, if_number, arm_shape, with_arm_of, with_tagged_arm, with_arm, with_next_arm, with_arms_in_turn, is_new_union, with_union_of, with_union_arms, with_union_at, with_union, with_any_field, empty_struct, with_fields_in_turn, laid_out, head_of_struct, struct_siblings, laid_with, struct_laid}
+use Rattle.deputy_types.specs.StructLaws.{AgreeBelow}
 use Rattle.deputy_types.proofs.Inversions.{some_then, some_map, if_some, ok_then, ok_declared, if_ok, unless_ok, within_is}
 use Rattle.deputy_types.specs.Types.{base_key, stars_key, front_stars, last_star, pointed_key}
-
--- structs up to a number have the same extents
-pub record AgreeBelow (n : ℕ) (before now : List Extent) : Type 0 where
-  pub same : (s : ℕ) → s < n → struct_extent before s ≡ struct_extent now s
 
 -- a type has the same extent, where its struct, if it is one, has
 same_type : (types : Types) (before now : List Extent) (plain : Unannotated) (siblings : Siblings) (place : ℕ) (t : TypeName) (x : Shape)

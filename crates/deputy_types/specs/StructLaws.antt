@@ -1,9 +1,10 @@
 -- What holds of a struct that was laid out: each member lies at a multiple of its alignment, behind those before it and within the struct,
 -- and so does each struct of an array.
-use Rattle.std.specs.Prelude.{ℕ, ◌+◌, ◌*◌, ◌≤◌, ◌≡◌, ◌⊎◌, ◌==◌, Bool, true, false, ℤ, Option, Some, None, List, [], ◌∷◌, All}
+use Rattle.std.specs.Prelude.{ℕ, ◌+◌, ◌*◌, ◌≤◌, ◌<◌, ◌≡◌, ◌⊎◌, ◌==◌, Bool, true, false, ℤ, Option, Some, None, List, [], ◌∷◌, All}
 use Rattle.checked_tree.specs.declared.shapes.Member.{Member}
 use Rattle.checked_tree.specs.declared.shapes.Shape.{Shape}
 use Rattle.checked_tree.specs.declared.shapes.Shape.TheVariants as shape
+use Rattle.checked_tree.specs.declared.shapes.StructShape.{StructShape}
 use Rattle.deputy_types.specs.declared.extent.Extent.{Extent}
 use Rattle.deputy_types.specs.declared.laying.Laid.{Laid}
 use Rattle.deputy_types.specs.Extents.{natural, scalar_extent, struct_extent}
@@ -49,3 +50,14 @@ pub record IsLaidOut (extents : List Extent) (laid : Laid) : Type 0 where
   pub order : AreInOrder extents laid.shape.members
   pub size : IsMultiple laid.extent.align laid.shape.size
   pub bytes : laid.extent.bytes ≡ laid.shape.size
+
+-- extents of structs that are the same up to a number
+pub record AgreeBelow (n : ℕ) (before now : List Extent) : Type 0 where
+  pub same : (s : ℕ) → s < n → struct_extent before s ≡ struct_extent now s
+
+-- the struct with this number was laid out with these extents, its own among them
+pub record IsStruct (extents : List Extent) (s : ℕ) (t : StructShape) : Type 0 where
+  pub laid : Laid
+  pub shape : laid.shape ≡ t
+  pub extent : struct_extent extents s ≡ laid.extent
+  pub lies : IsLaidOut extents laid

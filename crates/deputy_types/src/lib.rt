@@ -19,6 +19,7 @@ mod handed;
 mod kernel_calls;
 mod keys;
 mod laying;
+mod layout_laws;
 mod member_list;
 mod member_types;
 mod name_list;
@@ -54,6 +55,9 @@ pub use handed::{Handed, Passed};
 pub use kernel_calls::{ArgumentKind, KernelArguments};
 pub use keys::{
     are_constant, base_key, constant_sum, is_char, last_star, pointed_key, stars_key, type_key,
+};
+pub use layout_laws::{
+    a_struct_is_laid_out, a_struct_keeps_its_extent, structs_are_nested, zero_bytes_fit,
 };
 pub use member_list::MemberList;
 pub use name_list::NameList;

@@ -8,3 +8,9 @@ pub mod FoundBlocks
 pub mod KeyCounts
 pub mod DeclaredFacts
 pub mod WordBytes
+pub mod LayoutExamples
+pub mod Inversions
+pub mod MembersLie
+pub mod Nested
+pub mod SameExtent
+pub mod ZeroFits

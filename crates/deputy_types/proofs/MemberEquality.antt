@@ -1,11 +1,11 @@
 -- Equality of members, as the set of them compares, is equality of their unions and of their names.
-use Rattle.std.proofs.Common.{◌≡◌, ◌-◌, ◌<◌, ◌^◌, ◌&&◌, ◌==◌, ℕ, List, [], ◌∷◌, ◌++◌, Option, Some, None, position, Bool, true, false, cond, length, nat_lt, refl, sym, ◌∙◌, ap, subst}
+use Rattle.std.proofs.Common.{◌≡◌, ◌-◌, ◌<◌, ◌^◌, ◌&&◌, ◌==◌, ℕ, List, [], ◌∷◌, ◌++◌, Option, Some, None, position, Bool, true, false, cond, length, refl, sym, ◌∙◌, ap, subst}
 use Rattle.std.proofs.lemmas.Bool.{cond-true, cond-false, lt-ltb}
 use Rattle.std.specs.List.{list_any}
 use Rattle.indexmap.specs.IndexSet.{insert_key}
 use Rattle.deputy_types.specs.contracts.sibling.MemberNamePartialEq.TheImpl as members
 use Rattle.deputy_types.specs.declared.sibling.MemberName.{MemberName}
-use Rattle.deputy_types.specs.Siblings.{same_part, is_member, is_new_member, with_member}
+use Rattle.deputy_types.specs.Siblings.{is_member, is_new_member, with_member}
 use Rattle.deputy_types.proofs.NameEquality.{name_eq}
 
 by_parts : (p q : Option ℕ) (x y : List ℕ) → members.ghosts.eq (record { part = p; name = x }) (record { part = q; name = y }) ≡ is_member p x (record { part = q; name = y })

@@ -8,14 +8,9 @@ use Rattle.c_tree.specs.Slots.{slot_named, hidden_slot}
 use Rattle.c_tree.specs.declared.expressions.Binary.TheVariants as binary_op
 use Rattle.c_tree.specs.declared.expressions.Unary.TheVariants as unary_op
 use Rattle.c_tree.specs.declared.words.Suffix.TheVariants as suffix
-use Rattle.c_tree.specs.declared.types.Base.TheVariants as base
 use Rattle.checked_tree.specs.declared.expressions.Arithmetic.TheVariants as arithmetic_op
 use Rattle.checked_tree.specs.declared.expressions.CheckedExpr.{CheckedExpr}
 use Rattle.checked_tree.specs.declared.expressions.CheckedExpr.TheVariants as form
-use Rattle.checked_tree.specs.declared.expressions.Comparison.TheVariants as comparison_op
-use Rattle.checked_tree.specs.declared.expressions.Logic.TheVariants as logic_op
-use Rattle.checked_tree.specs.declared.expressions.PointerSum.TheVariants as pointer_sum
-use Rattle.checked_tree.specs.declared.expressions.Unary.TheVariants as checked_unary
 use Rattle.checked_tree.specs.declared.shapes.Bounds.TheVariants as bounds
 use Rattle.checked_tree.specs.declared.shapes.Edge.{Edge}
 use Rattle.checked_tree.specs.declared.shapes.Scalar.TheVariants as scalar
@@ -36,7 +31,7 @@ use Rattle.deputy_types.specs.declared.derived.Value.TheVariants as value
 use Rattle.deputy_types.specs.declared.derived.Written.TheVariants as written
 use Rattle.deputy_types.specs.declared.element.Element.TheVariants as key
 use Rattle.deputy_types.specs.Context.{Context}
-use Rattle.deputy_types.specs.Deriving.{Deriving, bind}
+use Rattle.deputy_types.specs.Deriving.{bind}
 use Rattle.deputy_types.specs.Expressions.{subscript, arrow}
 use Rattle.deputy_types.specs.Operators.{number, character, size_constant, unary, binary, negative, divided, family_of, on_integers, on_pointer_and_integer, on_integer_and_pointer, on_pointers, pointer_and_null, null_and_pointer, cast, integer_type, base_scalar}
 use Rattle.deputy_types.specs.Places.{named, global_place, not_null, through, through_text, followed, indexed, dotted, part_of, member_place, struct_of, arm_place, found_arm}

@@ -1,6 +1,6 @@
 -- An assignment to a field that a sibling's annotation names, and a call of a function whose parameter's annotation names another, with all their checks
 -- written out.
-use Rattle.std.proofs.Common.{◌≡◌, ℕ, List, [], ◌∷◌, codes, true, false, ℤ, pos, Some, None, refl}
+use Rattle.std.proofs.Common.{◌≡◌, ℕ, List, [], ◌∷◌, codes, false, pos, Some, None, refl}
 use Rattle.sd_base.specs.declared.kinds.CheckKind.TheVariants as kind
 use Rattle.c_tree.specs.declared.expressions.Expr.{Expr}
 use Rattle.c_tree.specs.declared.expressions.Expr.TheVariants as X
@@ -11,32 +11,24 @@ use Rattle.checked_tree.specs.declared.expressions.CheckedExpr.TheVariants as fo
 use Rattle.checked_tree.specs.declared.shapes.Bounds.{Bounds}
 use Rattle.checked_tree.specs.declared.shapes.Bounds.TheVariants as bounds
 use Rattle.checked_tree.specs.declared.shapes.Scalar.TheVariants.{U8, I32, Pointer}
-use Rattle.checked_tree.specs.declared.shapes.Shape.{Shape}
 use Rattle.checked_tree.specs.declared.shapes.Shape.TheVariants as shape
-use Rattle.checked_tree.specs.declared.statements.CheckedStmt.TheVariants as statement
-use Rattle.checked_tree.specs.declared.statements.Target.TheVariants as target
 use Rattle.checked_tree.specs.declared.sums.Part.{Part}
 use Rattle.checked_tree.specs.declared.sums.Part.TheVariants.{Constant}
 use Rattle.checked_tree.specs.declared.sums.Sum.{Sum}
-use Rattle.checked_tree.specs.Numbers.{converted}
 use Rattle.deputy_types.specs.declared.asked.Asked.{Asked}
 use Rattle.deputy_types.specs.declared.asked.AskedCond.{AskedCond}
-use Rattle.deputy_types.specs.declared.asked.AskedCond.TheVariants as cond
 use Rattle.deputy_types.specs.declared.element.Element.TheVariants as element
 use Rattle.deputy_types.specs.declared.signature.Returned.TheVariants as returned
 use Rattle.deputy_types.specs.declared.signature.Signature.{Signature}
-use Rattle.deputy_types.specs.Assignment.{assign, assign_to, store, store_member, store_number}
-use Rattle.deputy_types.specs.Calls.{call_function, call_target, free_slot, is_named_slot, shape_target, pass_one, pass, coerce_value}
-use Rattle.deputy_types.specs.Changes.{pointer_change, sibling_change, member_changes, tag_change}
-use Rattle.deputy_types.specs.Coercion.{has_all, converted_side, handed_value, ask_aligned, coerce, coerce_within, coerce_to}
+use Rattle.deputy_types.specs.Calls.{call_function, call_target, free_slot, is_named_slot, shape_target, pass_one, pass}
+use Rattle.deputy_types.specs.Coercion.{handed_value}
 use Rattle.deputy_types.specs.Context.{Context}
 use Rattle.deputy_types.specs.Deriving.{bind}
-use Rattle.deputy_types.specs.Operators.{number}
-use Rattle.deputy_types.specs.Places.{global_place, named, struct_of, member_place, part_of, dotted}
-use Rattle.deputy_types.specs.Sums.{atom_part, times, scaled}
-use Rattle.deputy_types.specs.Table.{Table, field, global, is_array, element_at, shape_names}
-use Rattle.deputy_types.specs.Values.{named_sum, name_sum, edge_sum, low_sum, high_sum, hidden_pointer, local_value, container, member_value, source_value, value_of, integer_of, pointer_of}
-use Rattle.deputy_types.proofs.StatementForms.{at_number, at_name, at_field}
+use Rattle.deputy_types.specs.Places.{named}
+use Rattle.deputy_types.specs.Sums.{atom_part}
+use Rattle.deputy_types.specs.Table.{Table, element_at, shape_names}
+use Rattle.deputy_types.specs.Values.{hidden_pointer, local_value, container, value_of}
+use Rattle.deputy_types.proofs.StatementForms.{at_name}
 
 -- `count` of the sibling with number k, of elements of 4 bytes
 abbrev counted : ℕ → Bounds

@@ -8,7 +8,7 @@ use Rattle.c_tree.specs.declared.types.Number.{Number}
 use Rattle.deputy_types.specs.declared.asked.Asked.{Asked}
 use Rattle.deputy_types.specs.declared.derived.Derived.{Derived}
 use Rattle.deputy_types.specs.Context.{Context}
-use Rattle.deputy_types.specs.Deriving.{Deriving, bind, ◌>>=◌, lift}
+use Rattle.deputy_types.specs.Deriving.{Deriving, ◌>>=◌, lift}
 use Rattle.deputy_types.specs.Expressions.{level, derive}
 use Rattle.deputy_types.specs.Operators.{number}
 use Rattle.deputy_types.specs.Places.{named, dotted}

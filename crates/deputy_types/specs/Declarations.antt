@@ -1,5 +1,5 @@
 -- Declared types: the shape of what a type name declares, with the bounds that its annotation gives (Deputy, ESOP 2007).
-use Rattle.std.specs.Prelude.{ℕ, Bool, true, false, not, ◌&&◌, ◌||◌, ◌==◌, if◌then◌else◌, List, [], ◌∷◌, ◌++◌, map, ℤ, pos, ◌+ℤ◌, ◌*ℤ◌, neg_ℤ, ◌^◌, Option, Some, None, option_map, unwrap_or}
+use Rattle.std.specs.Prelude.{ℕ, Bool, true, false, not, ◌&&◌, ◌==◌, if◌then◌else◌, List, [], ◌∷◌, ◌++◌, ℤ, pos, ◌+ℤ◌, ◌*ℤ◌, neg_ℤ, ◌^◌, Option, Some, None, option_map}
 use Rattle.c_tree.specs.declared.types.Addr.{Addr}
 use Rattle.c_tree.specs.declared.types.Annotation.{Annotation}
 use Rattle.c_tree.specs.declared.types.Annotation.TheVariants as annotation

@@ -1,5 +1,5 @@
 -- Sizes and alignments (the data layout of C99, 6.2.8, with natural alignment).
-use Rattle.std.specs.Prelude.{ℕ, ◌≤◌, ◌≢◌, ◌+◌, ◌-◌, ◌*◌, ◌/◌, max, List, [], ◌∷◌, Option, Some, None, option_map, unwrap_or, slice_get}
+use Rattle.std.specs.Prelude.{ℕ, ◌≤◌, ◌≢◌, ◌+◌, ◌-◌, ◌*◌, ◌/◌, max, List, [], ◌∷◌, option_map, unwrap_or, slice_get}
 use Rattle.c_tree.specs.declared.types.Star.{Star}
 use Rattle.c_tree.specs.declared.types.TypeName.{TypeName}
 use Rattle.checked_tree.specs.declared.shapes.Scalar.{Scalar}

@@ -13,6 +13,7 @@ pub mod Changes
 pub mod MemberTypes
 pub mod Found
 pub mod StructLayout
+pub mod StructLaws
 pub mod Context
 pub mod Deriving
 pub mod Sums
@@ -28,3 +29,4 @@ pub mod Operators
 pub mod Expressions
 pub mod UnitLayout
 pub mod Numbering
+pub mod Fitting

@@ -1,6 +1,6 @@
 -- The declaration and the layout of a struct: its fields in order, each at the next multiple of its alignment, and the first that stands against the
 -- rules or passes a limit (C99 6.7.2.1 with natural alignment, and the dependent fields and tagged unions of Deputy, ESOP 2007).
-use Rattle.std.specs.Prelude.{◌≡◌, ◌≢◌, ◌≤◌, ℕ, ◌+◌, ◌*◌, nat_lt, nat_le, Bool, true, false, not, ◌&&◌, ◌||◌, ◌==◌, if◌then◌else◌, List, [], ◌∷◌, ◌++◌, length, ℤ, pos, neg_ℤ, max, min, ◌^◌, ◌-◌, Option, Some, None, is_some, option_map, unwrap_or, slice_get, bytes_eq, Result, Ok, Err}
+use Rattle.std.specs.Prelude.{◌≢◌, ◌≤◌, ℕ, ◌+◌, ◌*◌, nat_lt, nat_le, Bool, true, false, not, ◌&&◌, ◌||◌, ◌==◌, if◌then◌else◌, List, [], ◌∷◌, ◌++◌, length, ℤ, pos, neg_ℤ, max, min, ◌^◌, ◌-◌, Option, Some, None, is_some, option_map, unwrap_or, slice_get, bytes_eq, Result, Ok, Err}
 use Rattle.std.specs.List.{list_any}
 use Rattle.std.specs.Ordering.{int_eq}
 use Rattle.c_tree.specs.declared.items.Arm.{Arm}
@@ -15,7 +15,6 @@ use Rattle.c_tree.specs.declared.types.Number.{Number}
 use Rattle.checked_tree.specs.declared.shapes.Member.{Member}
 use Rattle.checked_tree.specs.declared.shapes.Shape.{Shape}
 use Rattle.checked_tree.specs.declared.shapes.Shape.TheVariants as shape
-use Rattle.checked_tree.specs.declared.shapes.StructShape.{StructShape}
 use Rattle.checked_tree.specs.declared.shapes.UnionShape.{UnionShape}
 use Rattle.checked_tree.specs.Numbers.{is_of}
 use Rattle.deputy_types.specs.declared.extent.Extent.{Extent}
@@ -25,7 +24,6 @@ use Rattle.deputy_types.specs.declared.laying.Laying.{Laying}
 use Rattle.deputy_types.specs.declared.laying.Scope.{Scope}
 use Rattle.deputy_types.specs.declared.refusal.TypeRefusal.{TypeRefusal}
 use Rattle.deputy_types.specs.declared.refusal.TypeRefusal.TheVariants as refusal
-use Rattle.deputy_types.specs.declared.sibling.MemberName.{MemberName}
 use Rattle.deputy_types.specs.declared.sibling.Role.{Role}
 use Rattle.deputy_types.specs.declared.sibling.Role.TheVariants as role
 use Rattle.deputy_types.specs.declared.sibling.Unannotated.TheVariants as unannotated
@@ -36,7 +34,6 @@ use Rattle.deputy_types.specs.MemberTypes.{member_arrays, member_keys}
 use Rattle.deputy_types.specs.Options.{and_then}
 use Rattle.deputy_types.specs.declared.siblings.Siblings.{Siblings}
 use Rattle.deputy_types.specs.Siblings.{no_siblings, with_sibling, member_number, sibling_number, role_of}
-use Rattle.deputy_types.specs.declared.struct_names.StructNames.{StructNames}
 use Rattle.deputy_types.specs.declared.types.Types.{Types}
 use Rattle.deputy_types.specs.Types.{struct_number}
 

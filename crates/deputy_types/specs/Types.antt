@@ -1,5 +1,5 @@
 -- The types of a text as keys: equal types have equal keys, and a key's number is its place in the list of elements.
-use Rattle.std.specs.Prelude.{ℕ, Bool, true, false, ◌&&◌, ◌==◌, ◌^◌, if◌then◌else◌, List, [], ◌∷◌, ℤ, pos, ◌+ℤ◌, ◌*ℤ◌, neg_ℤ, Option, Some, None, is_some, option_map, position, bytes_eq, slice_get, take, length, ◌-◌}
+use Rattle.std.specs.Prelude.{ℕ, Bool, true, false, ◌&&◌, ◌==◌, ◌^◌, if◌then◌else◌, List, [], ◌∷◌, ℤ, pos, ◌+ℤ◌, neg_ℤ, Option, Some, None, is_some, option_map, position, bytes_eq, slice_get, take, length, ◌-◌}
 use Rattle.std.specs.Ordering.{int_eq}
 use Rattle.c_tree.specs.declared.types.Annotation.{Annotation}
 use Rattle.c_tree.specs.declared.types.Annotation.TheVariants as annotation
@@ -60,10 +60,6 @@ base_key structs base.Unsigned = Some (element.Int scalar.U32)
 base_key structs base.UnsignedInt = Some (element.Int scalar.U32)
 base_key structs base.UnsignedLong = Some (element.Int scalar.U32)
 base_key structs (base.Struct name) = option_map (λ n. element.Struct n) (struct_number structs name)
-
--- a number below 2^32 with a sign
-abbrev pub is_written : ℤ → Bool
-is_written z = is_between (neg_ℤ (pos (2 ^ 32))) (pos (2 ^ 32)) z
 
 -- a number with the sign before it
 abbrev pub signed_number : Bool → ℕ → ℤ

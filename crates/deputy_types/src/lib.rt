@@ -24,6 +24,7 @@ mod kernel_calls;
 mod kernel_names;
 mod keys;
 mod laying;
+mod layout_laws;
 mod load_image;
 mod member_list;
 mod member_types;
@@ -65,6 +66,9 @@ pub use kernel_calls::{ArgumentKind, KernelArguments};
 pub use kernel_names::kernel_named;
 pub use keys::{
     are_constant, base_key, constant_sum, is_char, last_star, pointed_key, stars_key, type_key,
+};
+pub use layout_laws::{
+    a_struct_is_laid_out, a_struct_keeps_its_extent, structs_are_nested, zero_bytes_fit,
 };
 pub use member_list::MemberList;
 pub use name_list::NameList;

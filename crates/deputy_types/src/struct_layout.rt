@@ -3,6 +3,7 @@ ghost use Rattle.std.specs.Prelude.{◌≡◌, IfOk};
 ghost use Rattle.deputy_types.specs.StructLayout as spec;
 ghost use Rattle.deputy_types.specs.StructLayout.{IsLaying, around, empty_struct as nothing};
 ghost use Rattle.deputy_types.specs.Extents.{AreExtents, IsExtent};
+ghost use Rattle.deputy_types.specs.StructLaws.{IsLaidOut};
 ghost use Rattle.deputy_types.specs.UnitLayout.{IsAnswer};
 
 use crate::extents::round_up_to;
@@ -156,12 +157,9 @@ fn laid_with(
     Ok(laid_out(alloc, types, fields, siblings, laying)?)
 }
 
-/// The layout of the struct with this number, behind structs of these extents: its shape, its extent and its names.
-///
-/// `NoDecl` with the line of the first field or arm that stands against a rule, or with the struct's own line where its name is taken; `Limit` with that of the
-/// first field that passes `Fields` or `Size`, or with the struct's own where it is the 257th.
+/// The layout of a struct whose head may stand or not.
 #[tactic(auto, unfolding(crate::specs::StructLayout::struct_laid))]
-pub(crate) fn struct_laid(
+fn laid_or_refused(
     alloc: Global,
     types: &Types,
     extents: &[Extent],
@@ -177,4 +175,24 @@ pub(crate) fn struct_laid(
     }
     let siblings = struct_siblings(alloc, types, s.fields.as_slice())?;
     laid_with(alloc, types, extents, number, s.fields.as_slice(), siblings)
+}
+
+/// The layout of the struct with this number, behind structs of these extents: its shape, its extent and its names.
+///
+/// Each member lies at a multiple of its alignment and within the struct. `NoDecl` with the line of the first field or arm that stands against a rule, or with
+/// the struct's own line where its name is taken; `Limit` with that of the first field that passes `Fields` or `Size`, or with the struct's own where it is the
+/// 257th.
+pub(crate) fn struct_laid(
+    alloc: Global,
+    types: &Types,
+    extents: &[Extent],
+    number: u32,
+    s: &StructItem,
+) -> Result<Laid, TypeRefusal>
+    requires { AreExtents extents.now }
+    ensures value { IsAnswer (spec.struct_laid types.now extents.now number s.now) result }
+    ensures extent { IfOk result (λ laid. IsExtent laid.extent) }
+    ensures lies { IfOk result (λ laid. IsLaidOut extents.now laid) }
+{
+    laid_or_refused(alloc, types, extents, number, s)
 }

@@ -1,4 +1,3 @@
-use Rattle.std.proofs.Common.{rules, ◌≡◌, sym, ◌∙◌}
 use Rattle.deputy_types.proofs.ElementEquality.{number-found}
 use Rattle.deputy_types.proofs.element_list.ElementList.number.Goals as goal
 

@@ -1,4 +1,4 @@
-use Rattle.std.proofs.Common.{rules, ◌≡◌, sym, ◌∙◌}
+use Rattle.std.proofs.Common.{rules, sym, ◌∙◌}
 use Rattle.deputy_types.proofs.MemberEquality.{has-found, known, added}
 use Rattle.deputy_types.proofs.member_list.MemberList.add.Goals as goal
 

@@ -1,4 +1,3 @@
-use Rattle.std.proofs.Common.{rules, ◌≡◌, sym, ◌∙◌}
 use Rattle.deputy_types.proofs.MemberEquality.{number-found}
 use Rattle.deputy_types.proofs.member_list.MemberList.number.Goals as goal
 

@@ -1,4 +1,4 @@
-use Rattle.std.proofs.Common.{rules, ◌≡◌, sym, ◌∙◌}
+use Rattle.std.proofs.Common.{rules, sym, ◌∙◌}
 use Rattle.deputy_types.proofs.NameEquality.{has-found, with_name-known, with_name-new}
 use Rattle.deputy_types.proofs.name_list.NameList.add.Goals as goal
 

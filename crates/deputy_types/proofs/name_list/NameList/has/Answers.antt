@@ -1,4 +1,3 @@
-use Rattle.std.proofs.Common.{rules, ◌≡◌, sym, ◌∙◌}
 use Rattle.deputy_types.proofs.NameEquality.{has-found}
 use Rattle.deputy_types.proofs.name_list.NameList.has.Goals as goal
 

@@ -1,4 +1,3 @@
-use Rattle.std.proofs.Common.{rules, ◌≡◌, sym, ◌∙◌}
 use Rattle.deputy_types.proofs.NameEquality.{number-found}
 use Rattle.deputy_types.proofs.name_list.NameList.number.Goals as goal
 

@@ -71,3 +71,6 @@ pub use struct_names::StructNames;
 pub use table::GlobalPlace;
 pub use typed_shapes::typed_shape;
 pub use types::Types;
+
+#[cfg(test)]
+mod layout_tests;

@@ -85,4 +85,6 @@ pub use types::Types;
 pub use unit_layout::layouts;
 
 #[cfg(test)]
+mod layout_tests;
+#[cfg(test)]
 mod tests;

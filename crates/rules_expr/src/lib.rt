@@ -1,0 +1,12 @@
+//! The rules of expressions: what each expression of a driver text derives, and the run-time checks that it asks for.
+#![tactic(auto)]
+
+mod asking;
+mod context;
+mod copies;
+mod forms;
+mod ids;
+mod sums;
+
+pub use asking::ask;
+pub use context::Context;

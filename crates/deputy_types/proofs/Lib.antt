@@ -4,3 +4,4 @@ pub mod MemberEquality
 pub mod RuleExamples
 pub mod StatementForms
 pub mod StatementExamples
+pub mod FoundBlocks

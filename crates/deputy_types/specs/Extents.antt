@@ -46,9 +46,13 @@ abbrev pub stars_extent : Extent → List Star → Extent
 stars_extent extent [] = extent
 stars_extent extent (star ∷ stars) = natural 4
 
+-- the extent of the type that a type name begins with
+abbrev pub base_extent : Types → List Extent → TypeName → Extent
+base_extent types extents t = unwrap_or (option_map (key_extent extents) (base_key types.structs t.base)) no_extent
+
 -- the extent of what a type name declares
 unfoldable pub type_extent : Types → List Extent → TypeName → Extent
-type_extent types extents t = stars_extent (unwrap_or (option_map (key_extent extents) (base_key types.structs t.base)) no_extent) t.stars
+type_extent types extents t = stars_extent (base_extent types extents t) t.stars
 
 -- the next multiple of an alignment
 abbrev pub round_up_to : ℕ → ℕ → ℕ
@@ -58,6 +62,12 @@ round_up_to align n = (n + (align - 1)) / align * align
 abbrev pub greater : Extent → Extent → Extent
 greater a b = record { bytes = max a.bytes b.bytes; align = max a.align b.align }
 
--- an extent as structs and numbers have it
-abbrev pub IsExtent : Extent → Type 0
-IsExtent x = (x.bytes ≤ 65536) × (1 ≤ x.align) × (x.align ≤ 4)
+-- an extent as structs, numbers and pointers have it
+pub record IsExtent (x : Extent) : Type 0 where
+  pub bytes : x.bytes ≤ 65536
+  pub least : 1 ≤ x.align
+  pub greatest : x.align ≤ 4
+
+-- extents of structs by number
+pub record AreExtents (extents : List Extent) : Type 0 where
+  pub each : (s : ℕ) → IsExtent (struct_extent extents s)

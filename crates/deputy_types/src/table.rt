@@ -1,4 +1,13 @@
 //! `TypeTable`: the types of a text, and what the rules look up in it.
+ghost use Rattle.std.specs.Prelude.{◌≡◌, option_copied};
+ghost use Rattle.deputy_types.specs.Table as table;
+
+use crate::dependence::{any_names, are_tagged_by};
+use crate::{Element, Extent, NameList, StructNames, Types};
+use checked_tree::{ImageBlock, Member, Shape, StructShape, UnionShape};
+use sd_base::Name;
+use sqlite_items::Items;
+use std::marker::Model;
 
 /// Where a global lies.
 #[derive(Clone, Copy, PartialEq, Eq, Debug)]
@@ -7,4 +16,251 @@ pub struct GlobalPlace {
     pub block: u32,
     /// Whether it is an array.
     pub array: bool,
+}
+
+/// The types of a text: its structs, the types of elements, and the blocks of its load image, by number. The globals have the first blocks, in text order,
+/// and the strings those behind. What is looked up by a name is found by hash.
+#[derive(Drop)]
+pub struct TypeTable {
+    pub(crate) types: Types,
+    /// The room of each struct.
+    pub(crate) extents: Items<Extent>,
+    pub(crate) elems: Items<Shape>,
+    pub(crate) structs: Items<StructShape>,
+    pub(crate) names: Items<StructNames>,
+    pub(crate) image: Items<ImageBlock>,
+    pub(crate) globals: NameList,
+    /// By global: whether it is an array.
+    pub(crate) arrays: Items<bool>,
+    /// How many strings there are.
+    pub(crate) literals: u32,
+}
+
+impl Model for TypeTable {
+    ghost use Rattle.std.specs.Prelude.{ℕ, ◌+◌, ◌<◌, ◌^◌, length};
+    ghost use Rattle.deputy_types.specs.Table.{Table};
+
+    ghost Value = { Table };
+
+    ghost view = { λ t. record {
+      types = t.types;
+      extents = t.extents;
+      elems = t.elems;
+      structs = t.structs;
+      names = t.names;
+      image = t.image;
+      globals = t.globals;
+      arrays = t.arrays;
+      literals = t.literals;
+    } };
+
+    ghost invariant = { λ t. length t.globals + t.literals < 2 ^ 32 };
+}
+
+impl TypeTable {
+    /// The names of the structs, and the types of elements.
+    pub fn types(&self) -> &Types
+        ensures { result.now ≡ self.now.types }
+    {
+        &self.types
+    }
+
+    /// The room of each struct, by its number.
+    pub fn extents(&self) -> &Items<Extent>
+        ensures { result.now ≡ self.now.extents }
+    {
+        &self.extents
+    }
+
+    /// The shapes of the types of elements, by number: `char` first.
+    pub fn elems(&self) -> &[Shape]
+        ensures { result.now ≡ self.now.elems }
+    {
+        self.elems.as_slice()
+    }
+
+    /// The structs, in text order.
+    pub fn structs(&self) -> &[StructShape]
+        ensures { result.now ≡ self.now.structs }
+    {
+        self.structs.as_slice()
+    }
+
+    /// The blocks of the load image: the globals, then the strings, each in text order.
+    pub fn image(&self) -> &[ImageBlock]
+        ensures { result.now ≡ self.now.image }
+    {
+        self.image.as_slice()
+    }
+
+    /// The number of a struct. None where no struct has this name.
+    pub fn structure(&self, name: &Name) -> Option<u32>
+        ensures { result ≡ table.structure self.now name.now }
+    {
+        self.types.structs.number(name)
+    }
+
+    /// The number of a field that is no union, among the members of its struct. None where there is none.
+    #[tactic(auto, unfolding(crate::specs::Table::field))]
+    pub fn field(&self, structure: u32, name: &Name) -> Option<u32>
+        ensures { result ≡ table.field self.now structure name.now }
+    {
+        match self.names.get(structure as usize) {
+            Some(names) => names.members.number(None, name),
+            None => None,
+        }
+    }
+
+    /// The number of a union of a struct. None where there is none.
+    #[tactic(auto, unfolding(crate::specs::Table::union_of))]
+    pub fn union_of(&self, structure: u32, name: &Name) -> Option<u32>
+        ensures { result ≡ table.union_of self.now structure name.now }
+    {
+        match self.names.get(structure as usize) {
+            Some(names) => names.unions.number(name),
+            None => None,
+        }
+    }
+
+    /// The number of an arm of the union with the number `part`, among the members of its struct. None where there is none.
+    #[tactic(auto, unfolding(crate::specs::Table::arm))]
+    pub fn arm(&self, structure: u32, part: u32, name: &Name) -> Option<u32>
+        ensures { result ≡ table.arm self.now structure part name.now }
+    {
+        match self.names.get(structure as usize) {
+            Some(names) => names.members.number(Some(part), name),
+            None => None,
+        }
+    }
+
+    /// The block of a global. None where no global has this name.
+    #[tactic(auto, unfolding(crate::specs::Table::global))]
+    pub fn global(&self, name: &Name) -> Option<GlobalPlace>
+        ensures { result ≡ table.global self.now name.now }
+    {
+        match self.globals.number(name) {
+            Some(block) => match self.arrays.get(block as usize) {
+                Some(array) => Some(GlobalPlace {
+                    block,
+                    array: *array,
+                }),
+                None => None,
+            },
+            None => None,
+        }
+    }
+
+    /// The block of the `k`-th string, counted from 0. None where there are not so many.
+    #[tactic(auto, unfolding(crate::specs::Table::literal))]
+    pub fn literal(&self, k: u32) -> Option<u32>
+        ensures { result ≡ table.literal self.now k }
+    {
+        if k < self.literals {
+            return Some(self.globals.len() as u32 + k);
+        }
+        None
+    }
+
+    /// The shape of the element with this number. None where there is none.
+    pub fn shape_of_elem(&self, elem: u32) -> Option<&Shape>
+        ensures { option_copied result ≡ table.shape_of_elem self.now elem }
+    {
+        self.elems.get(elem as usize)
+    }
+
+    /// The type of the element with this number. None where there is none.
+    #[tactic(auto, unfolding(crate::specs::Table::element_at))]
+    pub fn element_at(&self, elem: u32) -> Option<Element>
+        ensures { result ≡ table.element_at self.now elem }
+    {
+        self.types.elements.get(elem)
+    }
+
+    /// A member of a struct. None where there is none.
+    pub fn member(&self, structure: u32, member: u32) -> Option<&Member>
+        ensures { option_copied result ≡ table.member self.now structure member }
+    {
+        match self.structs.get(structure as usize) {
+            Some(found) => found.members.get(member as usize),
+            None => None,
+        }
+    }
+
+    /// The shape of a member of a struct. None where there is none.
+    pub fn member_shape(&self, structure: u32, member: u32) -> Option<&Shape>
+        ensures { option_copied result ≡ table.member_shape self.now structure member }
+    {
+        match self.member(structure, member) {
+            Some(found) => Some(&found.shape),
+            None => None,
+        }
+    }
+
+    /// How many bytes into its struct a member begins. None where there is none.
+    #[tactic(auto, unfolding(crate::specs::Table::offset))]
+    pub fn offset(&self, structure: u32, member: u32) -> Option<u32>
+        ensures { result ≡ table.offset self.now structure member }
+    {
+        match self.member(structure, member) {
+            Some(found) => Some(found.offset),
+            None => None,
+        }
+    }
+
+    /// A union of a struct. None where there is none.
+    pub fn union_shape(&self, structure: u32, part: u32) -> Option<UnionShape>
+        ensures { result ≡ table.union_shape self.now structure part }
+    {
+        match self.structs.get(structure as usize) {
+            Some(found) => found.unions.get(part as usize).copied(),
+            None => None,
+        }
+    }
+
+    /// Whether a member is an array. It is none where there is no such member.
+    #[tactic(auto, unfolding(crate::specs::Table::is_array))]
+    pub fn is_array(&self, structure: u32, member: u32) -> bool
+        ensures { result ≡ table.is_array self.now structure member }
+    {
+        match self.names.get(structure as usize) {
+            Some(names) => match names.arrays.get(member as usize) {
+                Some(array) => *array,
+                None => false,
+            },
+            None => false,
+        }
+    }
+
+    /// The type of a member, of an array that of an element. None where there is none, or its annotation is not constant.
+    #[tactic(auto, unfolding(crate::specs::Table::member_key))]
+    pub fn member_key(&self, structure: u32, member: u32) -> Option<Element>
+        ensures { result ≡ table.member_key self.now structure member }
+    {
+        match self.names.get(structure as usize) {
+            Some(names) => names.keys.get(member as usize).copied().flatten(),
+            None => None,
+        }
+    }
+
+    /// Whether the value of a member says which arm of a union is used.
+    #[tactic(auto, unfolding(crate::specs::Table::is_tag))]
+    pub fn is_tag(&self, structure: u32, member: u32) -> bool
+        ensures { result ≡ table.is_tag self.now structure member }
+    {
+        match self.structs.get(structure as usize) {
+            Some(found) => are_tagged_by(found.unions.as_slice(), member),
+            None => false,
+        }
+    }
+
+    /// Whether an annotation of its struct names a member.
+    #[tactic(auto, unfolding(crate::specs::Table::is_named))]
+    pub fn is_named(&self, structure: u32, member: u32) -> bool
+        ensures { result ≡ table.is_named self.now structure member }
+    {
+        match self.structs.get(structure as usize) {
+            Some(found) => any_names(found.members.as_slice(), member),
+            None => false,
+        }
+    }
 }

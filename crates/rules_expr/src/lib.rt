@@ -3,10 +3,13 @@
 
 mod asking;
 mod context;
+mod conversion;
 mod copies;
 mod forms;
 mod ids;
+mod names;
 mod sums;
+mod values;
 
 pub use asking::ask;
 pub use context::Context;

@@ -72,24 +72,14 @@ fn on_two(
 }
 
 /// The same with no checks.
-fn plain(
-    alloc: Global,
-    op: Arithmetic,
-    left: Whole,
-    right: Whole,
-) -> Result<Derived, AllocError>
+fn plain(alloc: Global, op: Arithmetic, left: Whole, right: Whole) -> Result<Derived, AllocError>
     ensures { IfOk result (λ d. d ≡ spec.on_two op left right []) }
 {
     on_two(alloc, op, left, right, Items::new(alloc))
 }
 
 /// `<< >>`: a shift has the type of its left side.
-fn shifted(
-    alloc: Global,
-    op: Arithmetic,
-    left: Whole,
-    right: Whole,
-) -> Result<Derived, AllocError>
+fn shifted(alloc: Global, op: Arithmetic, left: Whole, right: Whole) -> Result<Derived, AllocError>
     ensures { IfOk result (λ d. d ≡ spec.shifted op left right) }
 {
     let scalar = promoted(left.scalar);

@@ -39,7 +39,7 @@ impl<'a> Context<'a> {
     pub fn size_of(&self, key: Element) -> u32
         ensures { result ≡ values.size_of self.now key }
     {
-        key_extent(self.types.extents().as_slice(), &key).bytes
+        key_extent(self.types.extents(), &key).bytes
     }
 
     /// The shape of a slot. None where there is none, or its declaration is not derived.

@@ -170,12 +170,7 @@ fn part_by(
 
 /// `l.f`, l a place.
 #[tactic(auto, unfolding(deputy_types::specs::Places::part_of))]
-fn part_of(
-    alloc: Global,
-    ctx: &Context<'_>,
-    place: Place,
-    name: &Name,
-) -> Result<Derived, Refusal>
+fn part_of(alloc: Global, ctx: &Context<'_>, place: Place, name: &Name) -> Result<Derived, Refusal>
     ensures { Gives (spec.part_of ctx.now place name.now) result }
 {
     match struct_of(ctx, place.source) {
@@ -190,11 +185,12 @@ fn part_of(
 /// What is looked up of an arm with its union's tag.
 fn found_with(number: u32, arm: &Member, tag: &Member, constant: i64) -> FoundArm
     ensures { result ≡ record {
-        number = number;
-        offset = arm.now.offset;
-        constant = constant;
-        tag_offset = tag.now.offset;
-        tag_scalar = values.loaded_as tag.now.shape } }
+      number = number;
+      offset = arm.now.offset;
+      constant = constant;
+      tag_offset = tag.now.offset;
+      tag_scalar = values.loaded_as tag.now.shape;
+    } }
 {
     FoundArm {
         number,
@@ -225,12 +221,7 @@ fn found_in(
 }
 
 /// An arm by its number among the members.
-fn found_member(
-    ctx: &Context<'_>,
-    structure: u32,
-    part: u32,
-    number: u32,
-) -> Option<FoundArm>
+fn found_member(ctx: &Context<'_>, structure: u32, part: u32, number: u32) -> Option<FoundArm>
     ensures { result ≡ spec.found_member ctx.now structure part number }
 {
     match ctx.types.member(structure, number) {
@@ -266,7 +257,12 @@ fn ask_tag(
         result asked.new }
 {
     let tag = member_part(alloc, place.container.get(), arm.tag_scalar, arm.tag_offset)?;
-    ask(ctx, CheckKind::Tag, AskedCond::Equal(tag, arm.constant), asked)
+    ask(
+        ctx,
+        CheckKind::Tag,
+        AskedCond::Equal(tag, arm.constant),
+        asked,
+    )
 }
 
 /// An arm as a field, with this check. The only refusal is want of memory.
@@ -277,9 +273,10 @@ fn arm_field(
     check: usize,
 ) -> Result<Derived, AllocError>
     ensures { IfOk result (λ d. d ≡ derived.Place (record {
-        form = form.Field place.container arm.offset (check ∷ []);
-        at = sums.beyond place.at (pos arm.offset);
-        source = source.Member place.structure arm.number })) }
+      form = form.Field place.container arm.offset (check ∷ []);
+      at = sums.beyond place.at (pos arm.offset);
+      source = source.Member place.structure arm.number;
+    })) }
 {
     let form = field_form(alloc, place.container, arm.offset, one(alloc, check)?)?;
     let at = beyond(place.at, i64::from(arm.offset))?;

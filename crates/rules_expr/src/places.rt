@@ -149,7 +149,10 @@ pub fn through(
     ensures { Derives (spec.through ctx.now pointer asked.old) result asked.new }
 {
     let ids = not_null(alloc, ctx, &pointer, asked)?;
-    let end = beyond(copy_sum(alloc, &pointer.at)?, i64::from(ctx.size_of(pointer.elem)))?;
+    let end = beyond(
+        copy_sum(alloc, &pointer.at)?,
+        i64::from(ctx.size_of(pointer.elem)),
+    )?;
     let id = ask_below_high(alloc, ctx, end, &pointer, asked)?;
     let ids = with_id(ids, id)?;
     let source = Source::Element(pointer.elem);

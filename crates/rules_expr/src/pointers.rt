@@ -220,13 +220,14 @@ fn moved_pointer(
     checks: Ids,
 ) -> Result<Derived, AllocError>
     ensures { IfOk result (λ d. d ≡ spec.pointer (record {
-        form = form.Moved how from.form by size checks;
-        elem = from.elem;
-        nullterm = false;
-        sure = true;
-        at = at;
-        low = from.low;
-        high = from.high })) }
+      form = form.Moved how from.form by size checks;
+      elem = from.elem;
+      nullterm = false;
+      sure = true;
+      at = at;
+      low = from.low;
+      high = from.high;
+    })) }
 {
     let form = moved_form(alloc, how, from.form, by, size, checks)?;
     Ok(pointer(Pointed {
@@ -301,7 +302,12 @@ fn not_ended(
         return Ok(Items::new(alloc));
     }
     let at = copy_sum(alloc, at)?;
-    let id = ask(ctx, CheckKind::Term, AskedCond::Term { at, new: None }, asked)?;
+    let id = ask(
+        ctx,
+        CheckKind::Term,
+        AskedCond::Term { at, new: None },
+        asked,
+    )?;
     Ok(one(alloc, id)?)
 }
 
@@ -331,13 +337,14 @@ fn moved_text(
     checks: Ids,
 ) -> Result<Pointed, AllocError>
     ensures { IfOk result (λ p. p ≡ record {
-        form = form.Moved pointer_sum.PointerPlus from.form by size checks;
-        elem = from.elem;
-        nullterm = true;
-        sure = true;
-        at = at;
-        low = at;
-        high = at }) }
+      form = form.Moved pointer_sum.PointerPlus from.form by size checks;
+      elem = from.elem;
+      nullterm = true;
+      sure = true;
+      at = at;
+      low = at;
+      high = at;
+    }) }
 {
     let form = moved_form(alloc, PointerSum::PointerPlus, from.form, by, size, checks)?;
     let low = copy_sum(alloc, &at)?;

@@ -2,6 +2,7 @@
 ghost use Rattle.std.specs.Prelude.{◌≡◌, ◌+◌, ◌<◌, ◌^◌, None, Some, IfOk, if◌then◌else◌};
 ghost use Rattle.c_tree.specs.ShortUnit.{IsShortFunction};
 ghost use Rattle.c_tree.specs.Slots.{locals_of, is_automatic as automatic};
+ghost use Rattle.dep_infer.specs.Found.{IsPair};
 
 use crate::LocalTable;
 use c_tree::{Function, Local};
@@ -34,6 +35,7 @@ pub fn auto_bounds(alloc: Global, f: &Function) -> Result<LocalTable, Memory>
 fn take_hidden(local: &Local, next: &mut u32) -> Option<u32>
     requires { next.old + 2 < 2 ^ 32 }
     ensures slot { result ≡ if automatic local.now then Some next.old else None }
+    ensures pair { IsPair result }
     ensures next { next.new ≡ if automatic local.now then next.old + 2 else next.old }
 {
     if !is_automatic(local) {

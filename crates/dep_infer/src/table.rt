@@ -1,7 +1,7 @@
 //! `LocalTable`: the slots of a function by name, and the hidden slots of its automatic pointers.
-ghost use Rattle.std.specs.Prelude.{◌≡◌, ◌<◌, ◌^◌, ◌++◌, [], ◌∷◌, length, OnOk, OnErr};
+ghost use Rattle.std.specs.Prelude.{◌≡◌, ◌+◌, ◌<◌, ◌^◌, ◌++◌, [], ◌∷◌, length, IfSome, OnOk, OnErr};
 ghost use Rattle.c_tree.specs.Slots.{slot_named, hidden_slot};
-ghost use Rattle.dep_infer.specs.Found.{NotesFirst};
+ghost use Rattle.dep_infer.specs.Found.{NotesFirst, IsPair};
 
 use indexmap::IndexMap;
 use sd_base::{Memory, Name};
@@ -22,13 +22,13 @@ pub struct LocalTable {
 
 impl Model for LocalTable {
     ghost use Rattle.c_tree.specs.Slots.{Locals};
-    ghost use Rattle.dep_infer.specs.Found.{FindsFirst};
+    ghost use Rattle.dep_infer.specs.Found.{FindsFirst, ArePairs};
 
     ghost Value = { Locals };
 
     ghost view = { λ t. record { names = t.names.items; hidden = t.hidden } };
 
-    ghost invariant = { λ t. FindsFirst t.first.entries t.names.items };
+    ghost invariant = { λ t. FindsFirst t.first.entries t.names.items × ArePairs t.hidden };
 }
 
 impl LocalTable {
@@ -54,14 +54,17 @@ impl LocalTable {
     /// The first of the two hidden slots of a slot. None where the slot has none.
     #[tactic(auto, unfolding(c_tree::specs::Slots::hidden_slot))]
     pub fn hidden(&self, slot: u32) -> Option<u32>
-        ensures { result ≡ hidden_slot self.now slot }
+        ensures slot { result ≡ hidden_slot self.now slot }
+        ensures second { IfSome result (λ first. first + 1 < 2 ^ 32) }
     {
         self.hidden.get(slot as usize).copied().flatten()
     }
 
     /// The next slot: its name, and the first of its two hidden slots, if it has any.
+    #[tactic(auto, using(crate::proofs::Pairs::pairs_push))]
     pub(crate) fn declare(&mut self, name: &Name, hidden: Option<u32>) -> Result<(), Memory>
-        requires { length self.old.names < 2 ^ 32 }
+        requires room { length self.old.names < 2 ^ 32 }
+        requires pair { IsPair hidden }
         ensures { OnOk result (self.new ≡ record { names = self.old.names ++ name.now ∷ []; hidden = self.old.hidden ++ hidden ∷ [] }) }
     {
         self.hidden.push(hidden)?;

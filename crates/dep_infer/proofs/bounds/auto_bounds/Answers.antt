@@ -3,8 +3,8 @@ use Rattle.dep_infer.proofs.Counts.{short_slots}
 use Rattle.dep_infer.proofs.Slots.{after_params_few, left_few, next_few}
 use Rattle.dep_infer.proofs.bounds.auto_bounds.Goals as goal
 
-pub declare-requires : goal.declare-requires
-declare-requires c =
+pub declare-requires-clause-room : goal.declare-requires-clause-room
+declare-requires-clause-room c =
     let short = short_slots _ c.requires in
     let few = after_params_few _ _ _ c.loop-param.invariant in
     let params = ap length c.as_slice-params.ensures in
@@ -29,8 +29,8 @@ take_hidden-hidden-requires c =
     let few = next_few _ _ _ _ _ c.loop-local.invariant c.loop-local-test.true in
     omega (arith, short, few)
 
-pub declare-requires-in-loop-local : goal.declare-requires-in-loop-local
-declare-requires-in-loop-local c =
+pub declare-requires-in-loop-local-clause-room : goal.declare-requires-in-loop-local-clause-room
+declare-requires-in-loop-local-clause-room c =
     let short = short_slots _ c.requires in
     let few = left_few _ _ _ _ c.loop-local.invariant in
     omega (arith, short, few)

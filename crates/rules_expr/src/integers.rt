@@ -1,0 +1,320 @@
+//! Integers: constants, the operators before one operand, and casts. The only refusal of a function that answers an `AllocError` is want of memory.
+ghost use Rattle.std.specs.Prelude.{◌≡◌, neg_ℤ, pos, IfOk};
+ghost use Rattle.deputy_types.specs.Deriving.{Derives, Gives};
+ghost use Rattle.deputy_types.specs.Operators as spec;
+
+use crate::Context;
+use crate::conversion::converted;
+use crate::forms::{number_form, unary_form};
+use crate::places::{followed, is_unsigned};
+use crate::pointers::address_of;
+use crate::values::{integer_of, pointer_of, value_of};
+use c_tree::{Base, Number, Star, Suffix, TypeName, Unary};
+use checked_tree::{CheckedExpr, Scalar};
+use deputy_types::{Asked, Derived, Refusal, Value, Whole, Written};
+use sqlite_items::{Boxed, Items};
+use std::alloc::{AllocError, Global};
+
+/// An integer expression of this form and type.
+fn whole_of(form: Boxed<CheckedExpr>, scalar: Scalar, written: Written) -> Derived
+    ensures { result ≡ spec.whole_of form scalar written }
+{
+    Derived::Value(Value::Int(Whole {
+        form,
+        scalar,
+        written,
+    }))
+}
+
+/// A constant of this type, written so.
+fn constant_of_type(
+    alloc: Global,
+    value: i64,
+    scalar: Scalar,
+    written: Written,
+) -> Result<Derived, AllocError>
+    ensures { IfOk result (λ d. d ≡ spec.constant_of_type value scalar written) }
+{
+    let form = number_form(alloc, value, scalar)?;
+    Ok(whole_of(form, scalar, written))
+}
+
+/// Any other integer expression.
+pub fn computed(form: Boxed<CheckedExpr>, scalar: Scalar) -> Derived
+    ensures { result ≡ spec.computed form scalar }
+{
+    whole_of(form, scalar, Written::Other)
+}
+
+/// The type of a number without `u`: `unsigned` where it is above 2,147,483,647.
+fn narrow_scalar(value: u32) -> Scalar
+    ensures { result ≡ spec.narrow_scalar value }
+{
+    if value > 2_147_483_647 {
+        Scalar::U32
+    } else {
+        Scalar::I32
+    }
+}
+
+/// The type of a number.
+fn suffix_scalar(suffix: Suffix, value: u32) -> Scalar
+    ensures { result ≡ spec.suffix_scalar suffix value }
+{
+    match suffix {
+        Suffix::Plain => narrow_scalar(value),
+        Suffix::Long => narrow_scalar(value),
+        Suffix::Unsigned => Scalar::U32,
+        Suffix::UnsignedLong => Scalar::U32,
+    }
+}
+
+/// Whether a number has no suffix.
+fn is_plain(suffix: Suffix) -> bool
+    ensures { result ≡ spec.is_plain suffix }
+{
+    match suffix {
+        Suffix::Plain => true,
+        _ => false,
+    }
+}
+
+/// A number.
+#[tactic(auto, unfolding(deputy_types::specs::Operators::number))]
+pub fn number(alloc: Global, n: Number) -> Result<Derived, AllocError>
+    ensures { IfOk result (λ d. d ≡ spec.number n) }
+{
+    let scalar = suffix_scalar(n.suffix, n.value);
+    let written = Written::Number {
+        value: n.value,
+        plain: is_plain(n.suffix),
+    };
+    constant_of_type(alloc, i64::from(n.value), scalar, written)
+}
+
+/// A character: an `int`.
+#[tactic(auto, unfolding(deputy_types::specs::Operators::character))]
+pub fn character(alloc: Global, c: u8) -> Result<Derived, AllocError>
+    ensures { IfOk result (λ d. d ≡ spec.character c) }
+{
+    let value = i64::from(c);
+    constant_of_type(alloc, value, Scalar::I32, Written::Constant(value))
+}
+
+/// `sizeof(T)`: an `unsigned`.
+#[tactic(auto, unfolding(deputy_types::specs::Operators::size_constant))]
+pub fn size_constant(alloc: Global, size: u32) -> Result<Derived, AllocError>
+    ensures { IfOk result (λ d. d ≡ spec.size_constant size) }
+{
+    let value = i64::from(size);
+    constant_of_type(alloc, value, Scalar::U32, Written::Constant(value))
+}
+
+/// Promotion: `unsigned` stays, and a narrower type becomes `int`.
+pub fn promoted(scalar: Scalar) -> Scalar
+    ensures { result ≡ spec.promoted scalar }
+{
+    if is_unsigned(scalar) {
+        Scalar::U32
+    } else {
+        Scalar::I32
+    }
+}
+
+/// The type to which two sides are converted: `unsigned` where one of them is.
+pub fn common(left: Scalar, right: Scalar) -> Scalar
+    ensures { result ≡ spec.common left right }
+{
+    if is_unsigned(left) {
+        Scalar::U32
+    } else {
+        promoted(right)
+    }
+}
+
+/// An operator on one integer, in its promoted type.
+fn on_one(alloc: Global, op: checked_tree::Unary, of: Whole) -> Result<Derived, AllocError>
+    ensures { IfOk result (λ d. d ≡ spec.on_one op of) }
+{
+    let scalar = promoted(of.scalar);
+    let form = unary_form(alloc, op, scalar, of.form)?;
+    Ok(computed(form, scalar))
+}
+
+/// The negative of a number: a constant.
+fn negative_number(alloc: Global, scalar: Scalar, value: u32) -> Result<Derived, AllocError>
+    ensures { IfOk result (λ d. d ≡ spec.negative_number scalar value) }
+{
+    let negative = converted(scalar, -i64::from(value));
+    constant_of_type(alloc, negative, scalar, Written::Constant(negative))
+}
+
+/// `-e`, e an integer: the negative of a number is a constant.
+#[tactic(auto, unfolding(deputy_types::specs::Operators::negative))]
+fn negative(alloc: Global, of: Whole) -> Result<Derived, AllocError>
+    ensures { IfOk result (λ d. d ≡ spec.negative of) }
+{
+    match of.written {
+        Written::Number { value, plain: _ } => negative_number(alloc, of.scalar, value),
+        Written::Constant(_) => on_one(alloc, checked_tree::Unary::Negative, of),
+        Written::Other => on_one(alloc, checked_tree::Unary::Negative, of),
+    }
+}
+
+/// `!e`, e an integer or a pointer with this form.
+fn negation(alloc: Global, form: Boxed<CheckedExpr>) -> Result<Derived, AllocError>
+    ensures { IfOk result (λ d. d ≡ spec.negation form) }
+{
+    let form = unary_form(alloc, checked_tree::Unary::Not, Scalar::I32, form)?;
+    Ok(computed(form, Scalar::I32))
+}
+
+/// `!` of a value.
+fn not_by(alloc: Global, value: Value) -> Result<Derived, Refusal>
+    ensures { Gives (spec.not_by value) result }
+{
+    match value {
+        Value::Int(of) => Ok(negation(alloc, of.form)?),
+        Value::Pointer(of) => Ok(negation(alloc, of.form)?),
+        Value::Null => Err(Refusal::NoRule),
+    }
+}
+
+/// `-e`.
+fn minus(alloc: Global, ctx: &Context<'_>, of: Derived) -> Result<Derived, Refusal>
+    ensures { Gives (spec.minus ctx.now of) result }
+{
+    let of = integer_of(alloc, ctx, of)?;
+    Ok(negative(alloc, of)?)
+}
+
+/// An operator on an integer.
+fn on_integer(
+    alloc: Global,
+    ctx: &Context<'_>,
+    op: checked_tree::Unary,
+    of: Derived,
+) -> Result<Derived, Refusal>
+    ensures { Gives (spec.on_integer ctx.now op of) result }
+{
+    let of = integer_of(alloc, ctx, of)?;
+    Ok(on_one(alloc, op, of)?)
+}
+
+/// `!e`.
+fn not_of(alloc: Global, ctx: &Context<'_>, of: Derived) -> Result<Derived, Refusal>
+    ensures { Gives (spec.not_of ctx.now of) result }
+{
+    let of = value_of(alloc, ctx, of)?;
+    not_by(alloc, of)
+}
+
+/// `*e`.
+#[tactic(auto, unfolding(deputy_types::specs::Deriving::bind))]
+fn dereferenced(
+    alloc: Global,
+    ctx: &Context<'_>,
+    of: Derived,
+    asked: &mut Items<Asked>,
+) -> Result<Derived, Refusal>
+    ensures { Derives (spec.dereferenced ctx.now of asked.old) result asked.new }
+{
+    let pointer = pointer_of(alloc, ctx, of)?;
+    followed(alloc, ctx, pointer, asked)
+}
+
+/// The operators before an operand.
+#[tactic(auto, unfolding(deputy_types::specs::Operators::unary))]
+pub fn unary(
+    alloc: Global,
+    ctx: &Context<'_>,
+    op: Unary,
+    of: Derived,
+    asked: &mut Items<Asked>,
+) -> Result<Derived, Refusal>
+    ensures { Derives (spec.unary ctx.now op of asked.old) result asked.new }
+{
+    match op {
+        Unary::Minus => minus(alloc, ctx, of),
+        Unary::Complement => on_integer(alloc, ctx, checked_tree::Unary::Complement, of),
+        Unary::Not => not_of(alloc, ctx, of),
+        Unary::Plus => on_integer(alloc, ctx, checked_tree::Unary::Plus, of),
+        Unary::Dereference => dereferenced(alloc, ctx, of, asked),
+        Unary::Address => address_of(alloc, ctx, of),
+    }
+}
+
+/// The integer type that a base names. None where it is a struct.
+#[tactic(auto, unfolding(deputy_types::specs::Operators::base_scalar, deputy_types::specs::Types::base_key))]
+fn base_scalar(base: Base) -> Option<Scalar>
+    ensures { result ≡ spec.base_scalar base }
+{
+    match base {
+        Base::Char => Some(Scalar::U8),
+        Base::SignedChar => Some(Scalar::I8),
+        Base::UnsignedChar => Some(Scalar::U8),
+        Base::Short => Some(Scalar::I16),
+        Base::UnsignedShort => Some(Scalar::U16),
+        Base::Int => Some(Scalar::I32),
+        Base::Long => Some(Scalar::I32),
+        Base::Unsigned => Some(Scalar::U32),
+        Base::UnsignedInt => Some(Scalar::U32),
+        Base::UnsignedLong => Some(Scalar::U32),
+        Base::Struct(_) => None,
+    }
+}
+
+/// A type without stars.
+fn starless(stars: &[Star], scalar: Option<Scalar>) -> Option<Scalar>
+    ensures { result ≡ spec.starless stars.now scalar }
+{
+    match stars {
+        [] => scalar,
+        [_, ..] => None,
+    }
+}
+
+/// The integer type that a type name names. None where it is a struct or a pointer.
+#[tactic(auto, unfolding(deputy_types::specs::Operators::integer_type))]
+fn integer_type(name: &TypeName) -> Option<Scalar>
+    ensures { result ≡ spec.integer_type name.now }
+{
+    starless(name.stars.as_slice(), base_scalar(name.base))
+}
+
+/// `(T)e`, T and e integers: the converted value.
+fn cast_to(alloc: Global, scalar: Scalar, of: Whole) -> Result<Derived, AllocError>
+    ensures { IfOk result (λ d. d ≡ spec.cast_to scalar of) }
+{
+    let form = unary_form(alloc, checked_tree::Unary::Cast, scalar, of.form)?;
+    Ok(computed(form, promoted(scalar)))
+}
+
+/// `(T)e`, T this integer type.
+fn cast_by(
+    alloc: Global,
+    ctx: &Context<'_>,
+    scalar: Scalar,
+    of: Derived,
+) -> Result<Derived, Refusal>
+    ensures { Gives (spec.cast_by ctx.now scalar of) result }
+{
+    let of = integer_of(alloc, ctx, of)?;
+    Ok(cast_to(alloc, scalar, of)?)
+}
+
+/// `(T)e`.
+#[tactic(auto, unfolding(deputy_types::specs::Operators::cast))]
+pub fn cast(
+    alloc: Global,
+    ctx: &Context<'_>,
+    name: &TypeName,
+    of: Derived,
+) -> Result<Derived, Refusal>
+    ensures { Gives (spec.cast ctx.now name.now of) result }
+{
+    match integer_type(name) {
+        Some(scalar) => cast_by(alloc, ctx, scalar, of),
+        None => Err(Refusal::NoRule),
+    }
+}

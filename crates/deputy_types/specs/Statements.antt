@@ -86,9 +86,13 @@ unfoldable pub test : Context → Expr → Deriving CheckedExpr
 test ctx e = derive ctx e >>= λ d. lift (and_then (value_of ctx d) test_form)
 
 -- what is derived at a line, and then the numbers of its checks and atoms
+abbrev pub with_numbers : {A : Type 0} → ℕ → A → Option Numbered → Result (A × Numbered) Fault
+with_numbers line a None = Err (NoRule line)
+with_numbers line a (Some n) = Ok (a, n)
+
 abbrev pub numbered_at : {A : Type 0} → ℕ → Numbered → Option (A × List Asked) → Result (A × Numbered) Fault
 numbered_at line b None = Err (NoRule line)
-numbered_at line b (Some r) = Ok (r.0, numbered r.1 b)
+numbered_at line b (Some r) = with_numbers line r.0 (numbered r.1 b)
 
 -- the context of a statement: its line, and the number of checks before it
 abbrev pub statement_context : Context → ℕ → Numbered → Context

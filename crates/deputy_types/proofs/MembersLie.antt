@@ -1,5 +1,5 @@
 -- Each member of a struct that was laid out lies at a multiple of its alignment, behind those before it and within the struct.
-use Rattle.std.proofs.Common.{◌≡◌, ◌≢◌, ◌⊎◌, inl, inr, ℕ, zero, suc, ◌+◌, ◌-◌, ◌*◌, ◌/◌, ◌≤◌, max, nat_le, nat_lt, Bool, true, false, List, [], ◌∷◌, ◌++◌, length, ℤ, Option, Some, None, Result, Ok, Err, IfOk, option_map, unwrap_or, All, refl, sym, ◌∙◌, ap, subst, arith, if◌then◌else◌}
+use Rattle.std.proofs.Common.{◌≡◌, ◌≢◌, ◌⊎◌, inl, inr, ℕ, zero, suc, ◌+◌, ◌-◌, ◌*◌, ◌/◌, ◌≤◌, max, true, List, [], ◌∷◌, ◌++◌, length, ℤ, Option, Some, None, Result, Ok, Err, IfOk, option_map, unwrap_or, All, refl, sym, ◌∙◌, ap, subst, arith}
 use Rattle.std.proofs.lemmas.List.Elements.{All-nil, All-push, All-tail, All-weaker}
 use Rattle.std.proofs.lemmas.Bool.{eq-eqb}
 use Rattle.std.proofs.lemmas.Option.{slice_get-get_or}
@@ -8,7 +8,6 @@ use Rattle.c_tree.specs.declared.items.Declaration.{Declaration}
 use Rattle.c_tree.specs.declared.items.Field.{Field}
 use Rattle.c_tree.specs.declared.items.Field.TheVariants as field
 use Rattle.c_tree.specs.declared.items.StructItem.{StructItem}
-use Rattle.c_tree.specs.declared.limits.LimitKind.TheVariants as limit
 use Rattle.c_tree.specs.declared.types.Star.{Star}
 use Rattle.c_tree.specs.declared.types.TypeName.{TypeName}
 use Rattle.checked_tree.specs.declared.shapes.Member.{Member}
@@ -32,7 +31,7 @@ use Rattle.deputy_types.specs.Declarations.{plain_shape, pointer_shape, shape_be
 use Rattle.deputy_types.specs.Extents.{IsExtent, AreExtents, natural, no_extent, key_extent, stars_extent, type_extent, round_up_to, greater}
 use Rattle.deputy_types.specs.Options.{and_then}
 use Rattle.deputy_types.specs.Siblings.{no_siblings}
-use Rattle.deputy_types.specs.StructLayout.{Surroundings, and_ok, or_no_decl, is_first, is_new_field, field_shape, field_declared, is_complete, if_complete, siblings_of, counted, element_count, within_limits, placed, with_plain, arms_extent, const_value, arm_tag, if_number, arm_shape, with_arm_of, with_tagged_arm, with_arm, with_next_arm, with_arms_in_turn, is_new_union, with_union_of, with_union_arms, with_union_at, with_union, with_any_field, empty_struct, with_fields_in_turn, laid_out, head_of_struct, unless, struct_siblings, laid_with, struct_laid}
+use Rattle.deputy_types.specs.StructLayout.{Surroundings, or_no_decl, is_first, is_new_field, field_shape, field_declared, is_complete, if_complete, siblings_of, counted, element_count, within_limits, placed, with_plain, arms_extent, const_value, arm_tag, if_number, arm_shape, with_arm_of, with_tagged_arm, with_arm, with_next_arm, with_arms_in_turn, is_new_union, with_union_of, with_union_arms, with_union_at, with_union, with_any_field, empty_struct, with_fields_in_turn, laid_out, head_of_struct, struct_siblings, laid_with, struct_laid}
 use Rattle.deputy_types.proofs.Inversions.{some_then, some_map, if_some, ok_then, ok_declared, if_ok, unless_ok, within_is}
 use Rattle.deputy_types.specs.StructLaws.{IsMultiple, shape_extent, LiesWithin, is_arm_of, IsBefore, AreInOrder, IsLaidOut}
 use Rattle.deputy_types.specs.UnitLayout.{IsAnswer}

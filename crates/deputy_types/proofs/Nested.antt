@@ -1,5 +1,5 @@
 -- The structs of a text lie within one another: the sizes by which their members were laid out are those of the structs themselves.
-use Rattle.std.proofs.Common.{◌≡◌, ℕ, ◌+◌, ◌*◌, ◌≤◌, List, length, Option, Some, None, option_map, unwrap_or, slice_get, All, refl, sym, ◌∙◌, ap, subst, arith}
+use Rattle.std.proofs.Common.{◌≡◌, ℕ, ◌+◌, ◌*◌, ◌≤◌, List, Option, Some, None, option_map, unwrap_or, slice_get, All, refl, ◌∙◌, ap, subst, arith}
 use Rattle.std.proofs.lemmas.List.Elements.{All-weaker}
 use Rattle.checked_tree.specs.declared.shapes.Member.{Member}
 use Rattle.checked_tree.specs.declared.shapes.Scalar.{Scalar}
@@ -9,10 +9,9 @@ use Rattle.checked_tree.specs.declared.shapes.Shape.TheVariants as shape
 use Rattle.checked_tree.specs.declared.shapes.StructShape.{StructShape}
 use Rattle.checked_tree.specs.Numbers.{scalar_size}
 use Rattle.deputy_types.specs.declared.extent.Extent.{Extent}
-use Rattle.deputy_types.specs.declared.laying.Laid.{Laid}
 use Rattle.deputy_types.specs.Extents.{scalar_extent, struct_extent}
 use Rattle.deputy_types.specs.Fitting.{shape_size, AreNested}
-use Rattle.deputy_types.specs.StructLaws.{shape_extent, LiesWithin, IsLaidOut, IsStruct}
+use Rattle.deputy_types.specs.StructLaws.{shape_extent, LiesWithin, IsStruct}
 
 scalar_same : (s : Scalar) → scalar_size s ≡ (scalar_extent s).bytes
 scalar_same scalar.Void = refl

@@ -1,5 +1,5 @@
 -- Zero bytes fit every type: each pointer in them is null.
-use Rattle.std.proofs.Common.{◌≡◌, ◌≢◌, ◌⊎◌, inl, inr, ℕ, zero, suc, ◌+◌, ◌-◌, ◌*◌, ◌/◌, ◌≤◌, ◌<◌, Bool, true, false, List, [], ◌∷◌, length, take, drop, get_or, ℤ, pos, Option, Some, None, option_map, unwrap_or, slice_get, slice_index_or, All, refl, sym, ◌∙◌, ap, subst, arith}
+use Rattle.std.proofs.Common.{◌≡◌, ℕ, zero, suc, ◌+◌, ◌-◌, ◌*◌, ◌≤◌, ◌<◌, List, [], ◌∷◌, take, drop, get_or, ℤ, pos, Option, Some, option_map, unwrap_or, slice_get, slice_index_or, All, refl, sym, ◌∙◌, ap, subst, arith}
 use Rattle.std.proofs.lemmas.List.{get_or-drop}
 use Rattle.std.proofs.lemmas.Option.{slice_get_within, get_or_from_slice_get}
 use Rattle.sd_base.specs.Blocks.{Block}
@@ -10,7 +10,7 @@ use Rattle.checked_tree.specs.declared.shapes.Member.{Member}
 use Rattle.checked_tree.specs.declared.shapes.Shape.{Shape}
 use Rattle.checked_tree.specs.declared.shapes.Shape.TheVariants as shape
 use Rattle.checked_tree.specs.declared.shapes.StructShape.{StructShape}
-use Rattle.deputy_types.specs.Fitting.{shape_size, Part, whole, member, is_any, Fits, null, place_value, FitsBounds, HoldsFitting, member_value, is_used, BytesFit, AreZero, AreNested}
+use Rattle.deputy_types.specs.Fitting.{shape_size, Part, whole, member, is_any, null, FitsBounds, HoldsFitting, member_value, BytesFit, AreZero, AreNested}
 
 -- ---- zero bytes are the number 0
 zero_number : (n : ℕ) (xs : List ℕ) → ((i : ℕ) → i < n → get_or xs i 0 ≡ 0) → little_endian (take n xs) ≡ 0

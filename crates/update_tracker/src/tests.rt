@@ -1,4 +1,6 @@
 //! Calls with the answers of the written rules.
+mod shown_rows;
+
 use super::*;
 use kernel_tables::Kernel;
 use sd_base::{Layout, Memory, Who};

@@ -2,12 +2,16 @@
 #![tactic(auto)]
 
 mod atoms;
+mod build;
 mod conditions;
 mod forming;
 mod numbering;
+mod refusal;
 
 pub use atoms::Atoms;
+pub use build::{Build, check_expr};
 pub use numbering::number_checks;
+pub use refusal::{RuleRefusal, at_line};
 
 #[cfg(test)]
 mod tests;

@@ -27,7 +27,7 @@ use Rattle.deputy_types.specs.Assignment.{assign}
 use Rattle.deputy_types.specs.Calls.{pass, passed_argument, coerce_value, call, kalloc, kfree}
 use Rattle.deputy_types.specs.Checking.{Fault, NoRule, Checking, afterwards, ◌>>>◌, done, in_turn}
 use Rattle.deputy_types.specs.Context.{Context}
-use Rattle.deputy_types.specs.Expressions.{derive}
+use Rattle.deputy_types.specs.Expressions.{derive, expression}
 use Rattle.deputy_types.specs.Deriving.{Deriving, bind, ◌>>=◌, pure, none, lift}
 use Rattle.deputy_types.specs.Numbering.{Numbered, numbered}
 use Rattle.deputy_types.specs.Options.{and_then}
@@ -100,6 +100,10 @@ statement_context ctx line b = record ctx { line = line; first = length b.checks
 
 abbrev pub at_line : {A : Type 0} → Context → ℕ → (Context → Deriving A) → Checking Numbered A
 at_line ctx line p = λ b. numbered_at line b (p (statement_context ctx line b) [])
+
+-- an expression by itself, at the line of its context
+unfoldable pub expression_alone : Context → Expr → Checking Numbered CheckedExpr
+expression_alone ctx e = at_line ctx ctx.line (λ c. expression c e)
 
 unfoldable pub simple : Context → Home → Simple → Checking Numbered CheckedStmt
 simple ctx home s = at_line ctx s.line (λ c. act c home s.action)

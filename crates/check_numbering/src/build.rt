@@ -1,0 +1,64 @@
+//! `Build` and `check_expr`: an expression by itself, with its checks numbered.
+ghost use Rattle.std.specs.Prelude.{◌≡◌};
+ghost use Rattle.check_numbering.specs.Building.{numbers_of};
+ghost use Rattle.check_numbering.specs.Outcome.{Checks};
+ghost use Rattle.deputy_types.specs.Functions.{no_checks};
+ghost use Rattle.deputy_types.specs.Statements.{expression_alone};
+
+use crate::refusal::{RuleRefusal, at_line};
+use crate::{Atoms, number_checks};
+use c_tree::Expr;
+use checked_tree::{Check, CheckedExpr};
+use rules_expr::{Context, expression};
+use sqlite_items::{Boxed, Items};
+use std::alloc::Global;
+
+/// The atoms and the checks of a function so far. What holds them keeps what it had, and is not to be used after a refusal.
+#[derive(Drop)]
+pub struct Build {
+    pub atoms: Atoms,
+    pub checks: Items<Check>,
+}
+
+impl Build {
+    /// Neither.
+    pub fn new(alloc: Global) -> Build
+        ensures { numbers_of result ≡ no_checks }
+    {
+        Build {
+            atoms: Atoms::new(alloc),
+            checks: Items::new(alloc),
+        }
+    }
+}
+
+/// The checked form of an expression by itself, with the checks that it asks for, numbered behind those of the function, whatever number of checks the context
+/// tells.
+///
+/// `NoRule` on the line of the context exactly where no rule derives the expression; it says the same of a check whose linear forms are not light.
+#[tactic(auto, unfolding(deputy_types::specs::Statements::expression_alone))]
+pub fn check_expr(
+    alloc: Global,
+    ctx: &Context<'_>,
+    e: &Expr,
+    out: &mut Build,
+) -> Result<Boxed<CheckedExpr>, RuleRefusal>
+    ensures { Checks (expression_alone ctx.now e.now (numbers_of out.old)) result (numbers_of out.new) }
+{
+    let here = Context {
+        types: ctx.types,
+        locals: ctx.locals,
+        slots: ctx.slots,
+        line: ctx.line,
+        first: out.checks.as_slice().len(),
+    };
+    let mut asked = Items::new(alloc);
+    let form = match expression(alloc, &here, e, &mut asked) {
+        Ok(form) => form,
+        Err(refusal) => return Err(at_line(ctx.line, refusal)),
+    };
+    match number_checks(alloc, &mut out.atoms, &mut out.checks, asked.as_slice()) {
+        Ok(()) => Ok(form),
+        Err(refusal) => Err(at_line(ctx.line, refusal)),
+    }
+}

@@ -1,8 +1,7 @@
 -- What holds of the declarations so far stays so with each item.
-use Rattle.std.proofs.Common.{◌≡◌, ℕ, zero, suc, ◌+◌, ◌-◌, ◌<◌, ◌≤◌, Bool, true, false, cond, List, [], ◌∷◌, ◌++◌, length, replicate, nat_lt, nat_le, Option, Some, None, Result, Ok, Err, bytes_eq, refl, subst, sym, ap, is_ok, true≢false, arith}
+use Rattle.std.proofs.Common.{◌≡◌, ℕ, zero, suc, ◌+◌, ◌<◌, ◌≤◌, Bool, true, false, cond, List, [], ◌∷◌, ◌++◌, length, nat_lt, nat_le, Some, None, Result, Ok, refl, sym, ap, is_ok, true≢false, arith}
 use Rattle.std.proofs.lemmas.List.{length-append, length-replicate}
 use Rattle.std.proofs.lemmas.Bool.{leb-false, ltb-false}
-use Rattle.std.specs.List.{list_any}
 use Rattle.c_tree.specs.declared.items.StructItem.{StructItem}
 use Rattle.deputy_types.specs.declared.extent.Extent.{Extent}
 use Rattle.deputy_types.specs.declared.global.GlobalShape.{GlobalShape}
@@ -10,11 +9,11 @@ use Rattle.deputy_types.specs.declared.laying.Laid.{Laid}
 use Rattle.deputy_types.specs.declared.refusal.TypeRefusal.{TypeRefusal}
 use Rattle.deputy_types.specs.declared.types.Types.{Types}
 use Rattle.deputy_types.specs.declared.unit_items.Declared.{Declared}
-use Rattle.deputy_types.specs.Extents.{AreExtents, IsExtent, struct_extent, no_extent}
+use Rattle.deputy_types.specs.Extents.{AreExtents, IsExtent, struct_extent}
 use Rattle.deputy_types.specs.Found.{with_name}
-use Rattle.deputy_types.specs.StructLayout.{and_ok, head_of_struct, is_number, struct_laid, unless}
+use Rattle.deputy_types.specs.StructLayout.{head_of_struct, is_number, struct_laid, unless}
 use Rattle.deputy_types.specs.Types.{struct_number}
-use Rattle.deputy_types.specs.UnitLayout.{IsDeclared, with_global_shape, with_body, with_taken}
+use Rattle.deputy_types.specs.UnitLayout.{IsDeclared, with_global_shape, with_body}
 
 -- extents with one more
 extent_at : (extents : List Extent) (x : Extent) (s : ℕ) → ((t : ℕ) → IsExtent (struct_extent extents t)) → IsExtent x → IsExtent (struct_extent (extents ++ x ∷ []) s)

@@ -1,6 +1,6 @@
 -- When two heads of one function agree: in their results, and in the types and annotations of their parameters, where each name stands for the
 -- place of the parameter that it names (C99, 6.2.7 and 6.7.5.3; the annotations are part of the types).
-use Rattle.std.specs.Prelude.{ℕ, Bool, true, false, ◌&&◌, ◌||◌, ◌==◌, List, [], ◌∷◌, ℤ, pos, Option, Some, None, position, bytes_eq}
+use Rattle.std.specs.Prelude.{ℕ, Bool, true, false, ◌&&◌, ◌==◌, List, [], ◌∷◌, ℤ, pos, Option, Some, None, position, bytes_eq}
 use Rattle.std.specs.Ordering.{int_eq}
 use Rattle.c_tree.specs.declared.items.Head.{Head}
 use Rattle.c_tree.specs.declared.items.Param.{Param}

@@ -1,6 +1,6 @@
 -- `l = e`: the checks of e, those of l's place, that a terminator stays, the coercion of e to l's type with the present values of the names, the coercion
 -- of each sibling whose type names l, and that a tag's union is clear.
-use Rattle.std.specs.Prelude.{ℕ, Bool, true, false, List, [], ◌∷◌, ◌++◌, ℤ, pos, Option, Some, None}
+use Rattle.std.specs.Prelude.{ℕ, true, false, [], ◌∷◌, ◌++◌, ℤ, pos, Some}
 use Rattle.sd_base.specs.declared.kinds.CheckKind.TheVariants as kind
 use Rattle.c_tree.specs.declared.expressions.Expr.{Expr}
 use Rattle.c_tree.specs.Slots.{hidden_slot}
@@ -12,7 +12,6 @@ use Rattle.checked_tree.specs.declared.shapes.Shape.{Shape}
 use Rattle.checked_tree.specs.declared.shapes.Shape.TheVariants as shape
 use Rattle.checked_tree.specs.declared.statements.CheckedStmt.{CheckedStmt}
 use Rattle.checked_tree.specs.declared.statements.CheckedStmt.TheVariants as statement
-use Rattle.checked_tree.specs.declared.statements.PointerOperand.{PointerOperand}
 use Rattle.deputy_types.specs.declared.asked.AskedCond.TheVariants.{Term}
 use Rattle.deputy_types.specs.declared.derived.Derived.{Derived}
 use Rattle.deputy_types.specs.declared.derived.Derived.TheVariants as derived
@@ -27,7 +26,7 @@ use Rattle.deputy_types.specs.Changes.{present, struct_names, slot_changes, memb
 use Rattle.deputy_types.specs.Coercion.{converted_side, handed, coerce_to, coerce_counted}
 use Rattle.deputy_types.specs.Context.{Context, slot_shape}
 use Rattle.deputy_types.specs.Expressions.{derive}
-use Rattle.deputy_types.specs.Deriving.{Deriving, bind, ◌>>=◌, pure, none, lift, ask}
+use Rattle.deputy_types.specs.Deriving.{Deriving, ◌>>=◌, pure, none, lift, ask}
 use Rattle.deputy_types.specs.Sums.{sum_of}
 use Rattle.deputy_types.specs.Table.{element_at, member}
 use Rattle.deputy_types.specs.Values.{address, integer_of, is_nullterm, of_slots}

@@ -1,18 +1,16 @@
 -- Calls of functions and of the kernel, `kalloc` and `kfree`, and the local that takes a result.
-use Rattle.std.specs.Prelude.{ℕ, ◌+◌, Bool, true, false, not, ◌&&◌, ◌==◌, if◌then◌else◌, List, [], ◌∷◌, ◌++◌, map, length, pos, Option, Some, None, option_map, position, bytes_eq, slice_get}
+use Rattle.std.specs.Prelude.{ℕ, Bool, true, false, ◌&&◌, ◌==◌, if◌then◌else◌, List, [], ◌∷◌, ◌++◌, map, Option, Some, None, option_map, position, bytes_eq, slice_get}
 use Rattle.std.specs.List.{list_any}
-use Rattle.c_tree.specs.declared.expressions.Expr.{Expr, out-Expr}
+use Rattle.c_tree.specs.declared.expressions.Expr.{Expr}
 use Rattle.c_tree.specs.declared.expressions.Expr.TheOpen as X
 use Rattle.c_tree.specs.declared.expressions.Expr.TheFolds.{fold-Expr}
 use Rattle.c_tree.specs.declared.types.TypeName.{TypeName}
 use Rattle.c_tree.specs.Slots.{slot_named, hidden_slot}
-use Rattle.checked_tree.specs.declared.expressions.CheckedExpr.TheVariants as form
 use Rattle.checked_tree.specs.declared.kernel.KernelName.{KernelName}
 use Rattle.checked_tree.specs.declared.kernel.KernelName.TheVariants as kernel
 use Rattle.checked_tree.specs.declared.shapes.Bounds.{Bounds}
 use Rattle.checked_tree.specs.declared.shapes.Bounds.TheVariants as bounds
-use Rattle.checked_tree.specs.declared.shapes.Scalar.{Scalar}
-use Rattle.checked_tree.specs.declared.shapes.Scalar.TheVariants.{Void, U8, I8, U16, I16, I32, U32, Pointer}
+use Rattle.checked_tree.specs.declared.shapes.Scalar.TheVariants.{U8, I32}
 use Rattle.checked_tree.specs.declared.shapes.Shape.{Shape}
 use Rattle.checked_tree.specs.declared.shapes.Shape.TheVariants as shape
 use Rattle.checked_tree.specs.declared.statements.Argument.{Argument}
@@ -25,7 +23,6 @@ use Rattle.checked_tree.specs.declared.sums.Sum.{Sum}
 use Rattle.deputy_types.specs.declared.derived.Derived.{Derived}
 use Rattle.deputy_types.specs.declared.derived.Value.{Value}
 use Rattle.deputy_types.specs.declared.derived.Value.TheVariants as value
-use Rattle.deputy_types.specs.declared.derived.Whole.{Whole}
 use Rattle.deputy_types.specs.declared.element.Element.{Element}
 use Rattle.deputy_types.specs.declared.element.Element.TheVariants as element
 use Rattle.deputy_types.specs.declared.handed.Handed.{Handed}
@@ -42,13 +39,13 @@ use Rattle.deputy_types.specs.declared.signature.Signature.{Signature}
 use Rattle.deputy_types.specs.Coercion.{converted_side, handed, handed_over, null, coerce_to}
 use Rattle.deputy_types.specs.Context.{Context, slot_shape}
 use Rattle.deputy_types.specs.Expressions.{derive}
-use Rattle.deputy_types.specs.Deriving.{Deriving, bind, ◌>>=◌, pure, none, lift}
+use Rattle.deputy_types.specs.Deriving.{Deriving, ◌>>=◌, pure, none, lift}
 use Rattle.deputy_types.specs.KernelCalls.{kernel_row, kernel_named}
 use Rattle.deputy_types.specs.Operators.{promoted}
 use Rattle.deputy_types.specs.Options.{and_then}
 use Rattle.deputy_types.specs.Pointers.{is_written}
 use Rattle.deputy_types.specs.Sums.{sum_of}
-use Rattle.deputy_types.specs.Table.{Table, elem, element_at, shape_names}
+use Rattle.deputy_types.specs.Table.{elem, element_at, shape_names}
 use Rattle.deputy_types.specs.Values.{address, integer_of, is_nullterm, size_of, value_of}
 
 -- the number of a function with a body: the place of the first that has this name

@@ -2,7 +2,6 @@
 -- has to fit its own type with the new value in the name's place. All its checks have the kind Change.
 use Rattle.std.specs.Prelude.{ℕ, ◌+◌, ◌==◌, if◌then◌else◌, List, [], ◌∷◌, ◌++◌, map, pos, negsuc, Option, Some, None, find, option_map, slice_get, unwrap_or}
 use Rattle.sd_base.specs.declared.kinds.CheckKind.TheVariants as kind
-use Rattle.checked_tree.specs.declared.expressions.CheckedExpr.{CheckedExpr}
 use Rattle.checked_tree.specs.declared.expressions.CheckedExpr.TheVariants as form
 use Rattle.checked_tree.specs.declared.shapes.Bounds.{Bounds}
 use Rattle.checked_tree.specs.declared.shapes.Member.{Member}
@@ -21,8 +20,8 @@ use Rattle.deputy_types.specs.declared.naming.Names.TheVariants as names
 use Rattle.deputy_types.specs.declared.naming.Naming.{Naming}
 use Rattle.deputy_types.specs.Coercion.{coerce}
 use Rattle.deputy_types.specs.Context.{Context}
-use Rattle.deputy_types.specs.Deriving.{Deriving, bind, ◌>>=◌, pure, lift, ask}
-use Rattle.deputy_types.specs.Sums.{atom_part, beyond, with_part, sum_of}
+use Rattle.deputy_types.specs.Deriving.{Deriving, ◌>>=◌, pure, lift, ask}
+use Rattle.deputy_types.specs.Sums.{atom_part, beyond, with_part}
 use Rattle.deputy_types.specs.Table.{Table, bounds_name, element_at, members_of}
 use Rattle.deputy_types.specs.Values.{size_of, name_sum, low_sum, high_sum, container}
 

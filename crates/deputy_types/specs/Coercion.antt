@@ -8,7 +8,7 @@ use Rattle.checked_tree.specs.declared.expressions.Unary.TheVariants.{Cast}
 use Rattle.checked_tree.specs.declared.shapes.Bounds.{Bounds}
 use Rattle.checked_tree.specs.declared.shapes.Bounds.TheVariants as bounds
 use Rattle.checked_tree.specs.declared.shapes.Scalar.{Scalar}
-use Rattle.checked_tree.specs.declared.shapes.Scalar.TheVariants.{Void, U8, I8, U16, I16, I32, U32, Pointer}
+use Rattle.checked_tree.specs.declared.shapes.Scalar.TheVariants.{U8, I8, U16, I16, I32, U32}
 use Rattle.checked_tree.specs.declared.sums.Part.{Part}
 use Rattle.checked_tree.specs.declared.sums.Part.TheVariants.{Constant}
 use Rattle.checked_tree.specs.declared.sums.Sum.{Sum}
@@ -23,7 +23,7 @@ use Rattle.deputy_types.specs.declared.element.Element.{Element}
 use Rattle.deputy_types.specs.declared.handed.Handed.{Handed}
 use Rattle.deputy_types.specs.declared.naming.Naming.{Naming}
 use Rattle.deputy_types.specs.Context.{Context}
-use Rattle.deputy_types.specs.Deriving.{Deriving, bind, ◌>>=◌, pure, ask}
+use Rattle.deputy_types.specs.Deriving.{Deriving, ◌>>=◌, pure, ask}
 use Rattle.deputy_types.specs.Operators.{same_truth}
 use Rattle.deputy_types.specs.Options.{and_then}
 use Rattle.deputy_types.specs.Pointers.{is_written}

@@ -1,5 +1,5 @@
 -- What is found in a text, in its order: the types of elements, each once, and the strings.
-use Rattle.std.specs.Prelude.{ℕ, ◌-◌, ◌^◌, nat_lt, Bool, true, false, if◌then◌else◌, List, [], ◌∷◌, ◌++◌, length, fold, Option, Some, None, bytes_eq}
+use Rattle.std.specs.Prelude.{ℕ, ◌-◌, ◌^◌, nat_lt, if◌then◌else◌, List, [], ◌∷◌, ◌++◌, length, Option, Some, None, bytes_eq}
 use Rattle.std.specs.List.{list_any}
 use Rattle.c_tree.specs.declared.expressions.Expr.{Expr}
 use Rattle.c_tree.specs.declared.expressions.Expr.TheOpen.{Expr-F}
@@ -8,7 +8,6 @@ use Rattle.c_tree.specs.declared.items.Arm.{Arm}
 use Rattle.c_tree.specs.declared.items.Field.{Field}
 use Rattle.c_tree.specs.declared.items.Field.TheVariants as field
 use Rattle.c_tree.specs.declared.items.Function.{Function}
-use Rattle.c_tree.specs.declared.items.GlobalItem.{GlobalItem}
 use Rattle.c_tree.specs.declared.items.Head.{Head}
 use Rattle.c_tree.specs.declared.items.Item.{Item}
 use Rattle.c_tree.specs.declared.items.Item.TheVariants as item

@@ -1,5 +1,5 @@
 -- Functions and whole texts: in text order, within a function its head, its parameters and locals, then its statements.
-use Rattle.std.specs.Prelude.{ℕ, nat_lt, Bool, true, false, not, if◌then◌else◌, List, [], ◌∷◌, ◌++◌, map, length, ℤ, pos, negsuc, Option, Some, None, Result, Ok, Err, ◌^◌, ◌≡◌}
+use Rattle.std.specs.Prelude.{ℕ, nat_lt, not, if◌then◌else◌, List, [], ◌∷◌, ◌++◌, map, length, ℤ, pos, negsuc, Option, Some, None, Result, Ok, Err, ◌^◌, ◌≡◌}
 use Rattle.c_tree.specs.declared.items.Function.{Function}
 use Rattle.c_tree.specs.declared.items.Head.{Head}
 use Rattle.c_tree.specs.declared.items.Item.{Item}
@@ -22,7 +22,7 @@ use Rattle.deputy_types.specs.Checking.{Fault, NoRule, Limit, in_turn}
 use Rattle.deputy_types.specs.Context.{Context}
 use Rattle.deputy_types.specs.Heads.{Text, signature_of, parameter_shapes, slot_shapes, result_of, head_stands, function_stands, is_over, wrong_declaration, wrong_in_prototype}
 use Rattle.deputy_types.specs.Numbering.{Numbered}
-use Rattle.deputy_types.specs.Statements.{Home, check_statement}
+use Rattle.deputy_types.specs.Statements.{check_statement}
 use Rattle.deputy_types.specs.Table.{Table}
 
 -- the functions with bodies, in text order

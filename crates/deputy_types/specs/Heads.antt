@@ -1,5 +1,5 @@
 -- Heads, parameters and locals: what a function is declared to take, to hold and to return, and which of these declarations stand.
-use Rattle.std.specs.Prelude.{ℕ, ◌+◌, nat_lt, Bool, true, false, not, ◌&&◌, if◌then◌else◌, List, [], ◌∷◌, ◌++◌, map, length, Option, Some, None, is_none, is_some, option_map, position, bytes_eq, slice_get}
+use Rattle.std.specs.Prelude.{ℕ, ◌+◌, nat_lt, Bool, true, false, ◌&&◌, if◌then◌else◌, List, [], ◌∷◌, ◌++◌, map, length, Option, Some, None, is_none, is_some, option_map, position, bytes_eq, slice_get}
 use Rattle.std.specs.Option.{option_flatten}
 use Rattle.c_tree.specs.declared.items.Function.{Function}
 use Rattle.c_tree.specs.declared.items.Head.{Head}
@@ -12,7 +12,7 @@ use Rattle.c_tree.specs.declared.items.ResultBase.TheVariants as result
 use Rattle.c_tree.specs.declared.types.Base.{Base}
 use Rattle.c_tree.specs.declared.types.Star.{Star}
 use Rattle.c_tree.specs.declared.types.TypeName.{TypeName}
-use Rattle.c_tree.specs.Slots.{Locals, locals_of, is_automatic, slots, slot_named}
+use Rattle.c_tree.specs.Slots.{Locals, is_automatic, slots, slot_named}
 use Rattle.checked_tree.specs.declared.shapes.Shape.{Shape}
 use Rattle.checked_tree.specs.declared.shapes.Shape.TheVariants as shape
 use Rattle.deputy_types.specs.declared.sibling.Unannotated.{Unannotated}
@@ -22,7 +22,6 @@ use Rattle.deputy_types.specs.declared.signature.Returned.TheVariants as returne
 use Rattle.deputy_types.specs.declared.signature.Signature.{Signature}
 use Rattle.deputy_types.specs.Agreement.{agree, parameter_place, same_place}
 use Rattle.deputy_types.specs.Calls.{function_number}
-use Rattle.deputy_types.specs.Context.{Context}
 use Rattle.deputy_types.specs.Declarations.{declared_shape, declared_role}
 use Rattle.deputy_types.specs.KernelCalls.{kernel_named}
 use Rattle.deputy_types.specs.Options.{and_then}

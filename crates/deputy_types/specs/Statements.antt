@@ -1,5 +1,5 @@
 -- Statements and bodies: each with its checks, which are numbered when the statement ends; and the line of the first that no rule derives.
-use Rattle.std.specs.Prelude.{ℕ, Bool, true, false, if◌then◌else◌, List, [], ◌∷◌, length, pos, Option, Some, None, Ok, Err, Result, option_map}
+use Rattle.std.specs.Prelude.{ℕ, List, [], ◌∷◌, length, Option, Some, None, Ok, Err, Result, option_map}
 use Rattle.c_tree.specs.declared.expressions.Expr.{Expr}
 use Rattle.c_tree.specs.declared.statements.Action.{Action}
 use Rattle.c_tree.specs.declared.statements.Action.TheVariants as action
@@ -11,7 +11,6 @@ use Rattle.c_tree.specs.declared.statements.Stmt.{Stmt}
 use Rattle.checked_tree.specs.declared.expressions.CheckedExpr.{CheckedExpr}
 use Rattle.checked_tree.specs.declared.expressions.CheckedExpr.TheVariants as form
 use Rattle.checked_tree.specs.declared.shapes.Shape.{Shape}
-use Rattle.checked_tree.specs.declared.shapes.UnionShape.{UnionShape}
 use Rattle.checked_tree.specs.declared.statements.CheckedStmt.{CheckedStmt}
 use Rattle.checked_tree.specs.declared.statements.CheckedStmt.TheVariants as statement
 use Rattle.deputy_types.specs.declared.asked.Asked.{Asked}
@@ -25,10 +24,10 @@ use Rattle.deputy_types.specs.declared.signature.Returned.TheVariants as returne
 use Rattle.deputy_types.specs.declared.signature.Signature.{Signature}
 use Rattle.deputy_types.specs.Assignment.{assign}
 use Rattle.deputy_types.specs.Calls.{pass, passed_argument, coerce_value, call, kalloc, kfree}
-use Rattle.deputy_types.specs.Checking.{Fault, NoRule, Checking, afterwards, ◌>>>◌, done, in_turn}
+use Rattle.deputy_types.specs.Checking.{Fault, NoRule, Checking, ◌>>>◌, done, in_turn}
 use Rattle.deputy_types.specs.Context.{Context}
 use Rattle.deputy_types.specs.Expressions.{derive, expression}
-use Rattle.deputy_types.specs.Deriving.{Deriving, bind, ◌>>=◌, pure, none, lift}
+use Rattle.deputy_types.specs.Deriving.{Deriving, ◌>>=◌, pure, none, lift}
 use Rattle.deputy_types.specs.Numbering.{Numbered, numbered}
 use Rattle.deputy_types.specs.Options.{and_then}
 use Rattle.deputy_types.specs.Table.{union_shape}

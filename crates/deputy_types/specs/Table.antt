@@ -16,7 +16,6 @@ use Rattle.deputy_types.specs.Extents.{key_extent, stars_extent}
 use Rattle.deputy_types.specs.Options.{and_then}
 use Rattle.deputy_types.specs.declared.element.Element.{Element}
 use Rattle.deputy_types.specs.declared.extent.Extent.{Extent}
-use Rattle.deputy_types.specs.declared.sibling.MemberName.{MemberName}
 use Rattle.deputy_types.specs.declared.struct_names.StructNames.{StructNames}
 use Rattle.deputy_types.specs.declared.table.GlobalPlace.{GlobalPlace}
 use Rattle.deputy_types.specs.Siblings.{member_number}

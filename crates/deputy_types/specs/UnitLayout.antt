@@ -1,9 +1,8 @@
 -- The declarations of a whole text in turn, its load image and its table of types, or the first refusal.
-use Rattle.std.specs.Prelude.{◌≡◌, ℕ, ◌≤◌, ◌+◌, ◌-◌, ◌*◌, nat_lt, nat_le, Bool, true, false, not, ◌&&◌, ◌||◌, ◌==◌, if◌then◌else◌, List, [], ◌∷◌, ◌++◌, length, map, replicate, ℤ, pos, Option, Some, None, is_some, option_map, unwrap_or, slice_get, bytes_eq, Result, Ok, Err}
+use Rattle.std.specs.Prelude.{◌≡◌, ℕ, ◌≤◌, ◌+◌, ◌-◌, ◌*◌, nat_lt, nat_le, Bool, true, false, not, ◌||◌, if◌then◌else◌, List, [], ◌∷◌, ◌++◌, length, map, replicate, ℤ, pos, Option, Some, None, is_some, option_map, unwrap_or, slice_get, bytes_eq, Result, Ok, Err}
 use Rattle.std.specs.List.{list_any}
 use Rattle.std.specs.Ordering.{int_eq}
 use Rattle.c_tree.specs.declared.items.Const.{Const}
-use Rattle.c_tree.specs.declared.items.Function.{Function}
 use Rattle.c_tree.specs.declared.items.GlobalItem.{GlobalItem}
 use Rattle.c_tree.specs.declared.items.Item.{Item}
 use Rattle.c_tree.specs.declared.items.Item.TheVariants as item
@@ -12,10 +11,8 @@ use Rattle.c_tree.specs.declared.items.Unit.{Unit as TextUnit}
 use Rattle.c_tree.specs.declared.limits.LimitKind.TheVariants as limit
 use Rattle.c_tree.specs.declared.types.Number.{Number}
 use Rattle.checked_tree.specs.declared.shapes.Bounds.TheVariants as bounds
-use Rattle.checked_tree.specs.declared.shapes.Scalar.TheVariants as scalar
 use Rattle.checked_tree.specs.declared.shapes.Shape.{Shape}
 use Rattle.checked_tree.specs.declared.shapes.Shape.TheVariants as shape
-use Rattle.checked_tree.specs.declared.shapes.StructShape.{StructShape}
 use Rattle.checked_tree.specs.declared.units.ImageBlock.{ImageBlock}
 use Rattle.checked_tree.specs.Numbers.{low_bits}
 use Rattle.byte_memory.specs.Bytes.{low_bytes, zeros}
@@ -27,14 +24,13 @@ use Rattle.deputy_types.specs.declared.load_image.Image.{Image}
 use Rattle.deputy_types.specs.declared.laying.Laid.{Laid}
 use Rattle.deputy_types.specs.declared.refusal.TypeRefusal.{TypeRefusal}
 use Rattle.deputy_types.specs.declared.refusal.TypeRefusal.TheVariants as refusal
-use Rattle.deputy_types.specs.Declarations.{own, up_to}
+use Rattle.deputy_types.specs.Declarations.{up_to}
 use Rattle.deputy_types.specs.Extents.{key_extent, round_up_to, AreExtents}
 use Rattle.deputy_types.specs.declared.found.Found.{Found}
 use Rattle.deputy_types.specs.Found.{first_found, found_items, struct_names, with_name}
 use Rattle.deputy_types.specs.KernelCalls.{kernel_named}
 use Rattle.deputy_types.specs.Options.{and_then}
-use Rattle.deputy_types.specs.StructLayout.{and_ok, unless, or_no_decl, element_count, const_value, struct_laid}
-use Rattle.deputy_types.specs.declared.struct_names.StructNames.{StructNames}
+use Rattle.deputy_types.specs.StructLayout.{and_ok, or_no_decl, element_count, const_value, struct_laid}
 use Rattle.deputy_types.specs.Table.{Table, elem_size}
 use Rattle.deputy_types.specs.declared.types.Types.{Types}
 use Rattle.deputy_types.specs.declared.unit_items.Declared.{Declared}

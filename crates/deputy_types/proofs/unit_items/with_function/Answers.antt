@@ -1,4 +1,4 @@
-use Rattle.std.proofs.Common.{rules, subst, sym, ◌∙◌}
+use Rattle.std.proofs.Common.{rules, subst, sym}
 use Rattle.deputy_types.specs.UnitLayout.{IsDeclared}
 use Rattle.deputy_types.proofs.DeclaredFacts.{body_within}
 use Rattle.deputy_types.proofs.unit_items.with_function.Goals as goal

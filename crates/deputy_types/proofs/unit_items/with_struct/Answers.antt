@@ -1,4 +1,4 @@
-use Rattle.std.proofs.Common.{rules, subst, sym, arith, ◌<◌, length}
+use Rattle.std.proofs.Common.{rules, subst, sym}
 use Rattle.deputy_types.specs.UnitLayout.{IsDeclared}
 use Rattle.deputy_types.proofs.DeclaredFacts.{struct_within, laid_number}
 use Rattle.deputy_types.proofs.unit_items.with_struct.Goals as goal

@@ -1,6 +1,5 @@
 -- Words at which a phrase goes on, and words that end it: they are apart.
-use Rattle.std.proofs.Common.{◌≡◌, ℕ, ◌<◌, List, Bool, IsTrue, ap, arith}
-use Rattle.c_tree.specs.declared.keywords.Keyword.TheVariants as keyword
+use Rattle.std.proofs.Common.{◌≡◌, ℕ, List, ap, arith}
 use Rattle.c_tree.specs.declared.signs.Sign.{Sign}
 use Rattle.c_tree.specs.declared.signs.Sign.TheVariants as sign
 use Rattle.c_tree.specs.declared.words.Token.{Token}
@@ -9,7 +8,7 @@ use Rattle.c_tree.specs.Reading.{Begins}
 use Rattle.c_expr.specs.Classes.{At, is_base, is_in_types}
 use Rattle.c_expr.specs.Strength.{front_strength, strength_at, sign_strength, Tighter}
 use Rattle.c_expr.proofs.Begins.{in_class}
-use Rattle.c_decl.specs.Classes.{is_bracket, is_assign, is_comma, is_field, is_in_statements}
+use Rattle.c_decl.specs.Classes.{is_bracket, is_assign, is_comma, is_field}
 
 -- no row goes on at a sign that binds nothing
 pub loose : (s : Sign) (l : ℕ) → sign_strength s ≡ 0 → (q u : List Token) → Begins q (word.Sign s) u → Tighter l q → ⊥

@@ -5,22 +5,20 @@ use Rattle.c_tree.specs.declared.keywords.Keyword.TheVariants as keyword
 use Rattle.c_tree.specs.declared.signs.Sign.TheVariants as sign
 use Rattle.c_tree.specs.declared.statements.Action.{Action}
 use Rattle.c_tree.specs.declared.statements.Action.TheVariants as action
-use Rattle.c_tree.specs.declared.types.TypeName.{TypeName}
 use Rattle.c_tree.specs.declared.words.Token.{Token}
 use Rattle.c_tree.specs.declared.words.Word.TheVariants as word
 use Rattle.c_tree.specs.ExpressionGrammar.{UnaryExpr, Closed, closed}
-use Rattle.c_tree.specs.Reading.{Front, front_of, Begins, Best, Never, Enclosed, enclosed}
+use Rattle.c_tree.specs.Reading.{Front, front_of, Begins, Best, Never, enclosed}
 use Rattle.c_tree.specs.Reading.Front.{front}
-use Rattle.c_tree.specs.StatementGrammar.{ArgumentsAt, CallAt, call_at, TargetAt, target_at, Ends, ActionAt, assign, call, call_to, kalloc, kfree, zero, return_value, return_alone, empty}
-use Rattle.c_tree.specs.TypeGrammar.{TypeNameAt}
+use Rattle.c_tree.specs.StatementGrammar.{ArgumentsAt, call_at, TargetAt, target_at, Ends, ActionAt, assign, call, call_to, kalloc, kfree, zero, return_value, return_alone, empty}
 use Rattle.c_expr.specs.Classes.{is_expression}
 use Rattle.c_expr.proofs.Begins.{in_class}
 use Rattle.c_expr.proofs.Firsts.{unary_first, closed_first}
 use Rattle.c_decl.specs.declared.beginnings.Beginning.{Beginning}
 use Rattle.c_decl.specs.declared.beginnings.Beginning.TheVariants as beginning
-use Rattle.c_decl.specs.Actions.{ClosedEnd, CallAfter, ReturnAfter, alone, value, ActionAfter}
+use Rattle.c_decl.specs.Actions.{CallAfter, ReturnAfter, alone, value, ActionAfter}
 use Rattle.c_decl.specs.Beginnings.{opened, targeted, named, beginning_front, beginning_of}
-use Rattle.c_decl.specs.Sequences.{Then, then, Before, before, Ended, ended, Given, given}
+use Rattle.c_decl.specs.Sequences.{then, before, ended, given}
 use Rattle.c_decl.proofs.NamesAlone.{unary_alone, row_alone}
 use Rattle.c_decl.proofs.Sequences.{best_same}
 

@@ -1,5 +1,5 @@
 -- Where the reading of a text ends: at the end of its words, or before words that begin with no item.
-use Rattle.std.proofs.Common.{◌≡◌, ℕ, Bool, true, false, nat_eq, List, [], ◌∷◌, ◌++◌, length, Ok, Err, Result, None, ◌⊎◌, refl, ap, sym, ◌∙◌, subst, inl, inr, eqb-true, append-nil}
+use Rattle.std.proofs.Common.{◌≡◌, ℕ, Bool, true, false, nat_eq, List, [], ◌∷◌, ◌++◌, length, Ok, Err, Result, None, ◌⊎◌, refl, ap, sym, ◌∙◌, subst, inl, eqb-true, append-nil}
 use Rattle.std.proofs.lemmas.List.{nil_from_length}
 use Rattle.c_tree.specs.declared.items.Item.{Item}
 use Rattle.c_tree.specs.declared.items.Unit.{Unit as TextUnit}

@@ -19,7 +19,7 @@ use Rattle.c_expr.proofs.Firsts.{closed_first}
 use Rattle.c_expr.proofs.LongestPrimary.{closed_none, closed_open, closed_shut}
 use Rattle.c_decl.specs.Actions.{ReturnAfter, alone, value}
 use Rattle.c_decl.specs.Arguments.{behind}
-use Rattle.c_decl.specs.Sequences.{Ended, ended}
+use Rattle.c_decl.specs.Sequences.{ended}
 use Rattle.c_decl.proofs.Sequences.{best_same}
 
 -- ---- 'return'

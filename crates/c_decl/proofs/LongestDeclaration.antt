@@ -1,8 +1,7 @@
 -- The longest size, constant, value and case, and the longest declared object, one lemma for each way in which a reader ends.
-use Rattle.std.proofs.Common.{◌≡◌, ℕ, List, [], ◌∷◌, Option, None, Some, IfSome, length, ◌<◌, refl, ap, sym, ◌∙◌, subst, inl, inr, arith}
+use Rattle.std.proofs.Common.{◌≡◌, ℕ, List, Option, None, Some, IfSome, length, ◌<◌, refl, ap, sym, ◌∙◌, subst, inl, inr, arith}
 use Rattle.c_tree.specs.declared.items.Arm.{Arm}
 use Rattle.c_tree.specs.declared.items.Const.{Const}
-use Rattle.c_tree.specs.declared.items.Const.TheVariants as const
 use Rattle.c_tree.specs.declared.items.Declaration.{Declaration}
 use Rattle.c_tree.specs.declared.items.Local.{Local}
 use Rattle.c_tree.specs.declared.keywords.Keyword.TheVariants as keyword
@@ -13,7 +12,7 @@ use Rattle.c_tree.specs.declared.words.Suffix.{Suffix}
 use Rattle.c_tree.specs.declared.words.Token.{Token}
 use Rattle.c_tree.specs.declared.words.Word.TheVariants as word
 use Rattle.c_tree.specs.ItemGrammar.{SizeAt, no_array, array, ConstAt, number, negative, character, ValueAt, no_value, value, DeclarationAt, declaration, ArmAt, arm, LocalAt, local}
-use Rattle.c_tree.specs.Reading.{Front, front_of, Begins, Best, Within, Covered, Never, line_at}
+use Rattle.c_tree.specs.Reading.{Front, front_of, Begins, Best, Within, Never, line_at}
 use Rattle.c_tree.specs.Reading.Front.{front}
 use Rattle.c_tree.specs.StatementGrammar.{Ends}
 use Rattle.c_tree.specs.TypeGrammar.{TypeNameAt}
@@ -28,7 +27,7 @@ use Rattle.c_decl.specs.Constants.{size_close, size_number, size_front, size_of,
 use Rattle.c_decl.specs.Parts.{TypedAt, typed, CaseAt, case}
 use Rattle.c_decl.specs.Sequences.{Then, then, Ended, ended, Given, given}
 use Rattle.c_decl.proofs.Apart.{types_name}
-use Rattle.c_decl.proofs.Sequences.{then_none, then_is, then_once, ended_lacks, ended_is, given_is, mapped, best_same, computed}
+use Rattle.c_decl.proofs.Sequences.{then_none, then_once, ended_lacks, ended_is, given_is, mapped, best_same, computed}
 
 -- ---- sizes
 close_sound : (w u r : List Token) (n : ℕ) (s : Suffix) → Begins w (word.Sign sign.BracketOpen) u → Begins u (word.Number n s) r → (f : Front) → front_of r ≡ f

@@ -1,5 +1,5 @@
 -- The longest item, one lemma for each way in which a reader ends.
-use Rattle.std.proofs.Common.{◌≡◌, ℕ, List, [], ◌∷◌, ◌++◌, ◌⊎◌, Bool, IsTrue, Option, None, Some, IfSome, refl, ap, sym, ◌∙◌, subst, inl, inr}
+use Rattle.std.proofs.Common.{◌≡◌, ℕ, List, [], ◌∷◌, ◌++◌, ◌⊎◌, IsTrue, Option, None, Some, IfSome, refl, ap, sym, ◌∙◌, subst, inl, inr}
 use Rattle.c_tree.specs.declared.items.Const.{Const}
 use Rattle.c_tree.specs.declared.items.Field.{Field}
 use Rattle.c_tree.specs.declared.items.Head.{Head}
@@ -18,26 +18,25 @@ use Rattle.c_tree.specs.declared.types.Star.{Star}
 use Rattle.c_tree.specs.declared.words.Token.{Token}
 use Rattle.c_tree.specs.declared.words.Word.{Word}
 use Rattle.c_tree.specs.declared.words.Word.TheVariants as word
-use Rattle.c_tree.specs.ItemGrammar.{SizeAt, no_array, array, ValueAt, no_value, value, FieldAt, StructAt, struct, StaticAt, shared, static, GlobalAt, global, DeclarationAt, declaration, ResultAt, void, typed, HeadAt, head, LocalAt, FunctionAt, function, ItemAt, struct_item, global_item, function_item, prototype, added_return}
+use Rattle.c_tree.specs.ItemGrammar.{SizeAt, no_array, array, ValueAt, no_value, value, FieldAt, StructAt, struct, shared, static, global, declaration, void, typed, head, LocalAt, function, ItemAt, struct_item, global_item, function_item, prototype, added_return}
 use Rattle.c_tree.specs.Reading.{Front, front_of, Begins, Best, Within, Never, Each, each_end, each_more, line_at}
 use Rattle.c_tree.specs.Reading.Front.{front}
 use Rattle.c_tree.specs.StatementGrammar.{StmtsAt, no_statement, statements}
-use Rattle.c_tree.specs.TypeGrammar.{BaseAt, char, signed_char, unsigned_char, short, unsigned_short, int, long, unsigned, unsigned_int, unsigned_long, structure, StarAt, plain, annotated, TypeNameAt, type_name}
+use Rattle.c_tree.specs.TypeGrammar.{BaseAt, char, signed_char, unsigned_char, short, unsigned_short, int, long, unsigned, unsigned_int, unsigned_long, structure, StarAt, plain, annotated, type_name}
 use Rattle.c_expr.specs.Classes.{At, is_base}
 use Rattle.c_expr.specs.Looking.{Lacks}
-use Rattle.c_expr.proofs.Begins.{in_class}
 use Rattle.c_expr.proofs.Chains.{best_none}
 use Rattle.c_expr.proofs.Classes.{at_apart}
 use Rattle.c_decl.specs.declared.functions.Start.{Start}
 use Rattle.c_decl.specs.declared.params.Params.{Params}
 use Rattle.c_decl.specs.Classes.{is_bracket, is_assign, is_statement, is_in_statements}
 use Rattle.c_decl.specs.Items.{struct_brace, struct_name, struct_front, struct_opened_of, StructAfter, StartAt, start, head_with, ValuedAfter, global_after, GlobalAfter, BodyAfter, body_after, HeadAfter, prototype_after, function_after, FunctionAfter}
-use Rattle.c_decl.specs.Parts.{FieldsAt, ParamsEnd, params_end}
-use Rattle.c_decl.specs.Sequences.{Then, then, Before, before, Ended, ended, Given, given, Many, many}
+use Rattle.c_decl.specs.Parts.{ParamsEnd, params_end}
+use Rattle.c_decl.specs.Sequences.{Then, then, Before, before, Ended, ended, given, Many, many}
 use Rattle.c_decl.proofs.Apart.{base_close, bracket_assign, bracket_end, assign_end}
 use Rattle.c_decl.proofs.LongestStatement.{in_statements_close}
 use Rattle.c_decl.proofs.OneStatement.{statement_first}
-use Rattle.c_decl.proofs.Sequences.{then_none, then_is, then_once, before_lacks, before_is, ended_lacks, ended_is, best_same, end_apart}
+use Rattle.c_decl.proofs.Sequences.{then_none, then_is, then_once, ended_lacks, ended_is, best_same, end_apart}
 
 -- ---- bodies of functions
 abbrev made : Head → List Local → List Stmt → ℕ → Item

@@ -1,12 +1,12 @@
 -- The longest parameters, one lemma for each way in which a reader ends.
-use Rattle.std.proofs.Common.{◌≡◌, ℕ, ◌≤◌, List, [], ◌∷◌, length, Bool, true, false, Option, None, Some, refl, ap, sym, ◌∙◌, subst, inl, inr}
+use Rattle.std.proofs.Common.{◌≡◌, ℕ, List, [], ◌∷◌, Bool, true, false, Option, None, Some, refl, ap, sym, ◌∙◌, subst, inl, inr}
 use Rattle.c_tree.specs.declared.items.Param.{Param}
 use Rattle.c_tree.specs.declared.keywords.Keyword.TheVariants as keyword
 use Rattle.c_tree.specs.declared.signs.Sign.TheVariants as sign
 use Rattle.c_tree.specs.declared.words.Token.{Token}
 use Rattle.c_tree.specs.declared.words.Word.TheVariants as word
-use Rattle.c_tree.specs.ItemGrammar.{ParamAt, param, MoreParamAt, more_param, ParamsAt, no_param, written_void, params}
-use Rattle.c_tree.specs.Reading.{Begins, Best, Within, Never, Each, each_end, each_more, line_at}
+use Rattle.c_tree.specs.ItemGrammar.{ParamAt, param, MoreParamAt, more_param, no_param, written_void, params}
+use Rattle.c_tree.specs.Reading.{Begins, Best, Within, Never, Each, line_at}
 use Rattle.c_expr.specs.Classes.{At, is_base}
 use Rattle.c_expr.specs.Looking.{Lacks}
 use Rattle.c_expr.proofs.Begins.{in_class}

@@ -1,5 +1,5 @@
 -- The longest start of a global or a function, one lemma for each way in which a reader ends.
-use Rattle.std.proofs.Common.{◌≡◌, ℕ, ◌<◌, List, [], ◌∷◌, length, Bool, true, false, IsTrue, Option, None, Some, refl, ap, sym, ◌∙◌, subst, inl, inr}
+use Rattle.std.proofs.Common.{◌≡◌, ℕ, List, Bool, false, IsTrue, Option, None, Some, refl, sym, subst, inl, inr}
 use Rattle.c_tree.specs.declared.items.ResultBase.{ResultBase}
 use Rattle.c_tree.specs.declared.items.ResultBase.TheVariants as result
 use Rattle.c_tree.specs.declared.keywords.Keyword.TheVariants as keyword

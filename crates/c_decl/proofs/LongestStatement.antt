@@ -1,5 +1,5 @@
 -- The longest statement, body and list of statements, one lemma for each way in which a reader ends.
-use Rattle.std.proofs.Common.{◌≡◌, ℕ, ◌<◌, ◌≤◌, List, [], ◌∷◌, length, IsTrue, Option, None, Some, refl, ap, sym, ◌∙◌, subst, inl, inr, arith}
+use Rattle.std.proofs.Common.{◌≡◌, ℕ, ◌<◌, ◌≤◌, List, [], ◌∷◌, length, IsTrue, Option, None, Some, refl, ap, ◌∙◌, subst, inl, inr}
 use Rattle.c_tree.specs.declared.expressions.Expr.{Expr}
 use Rattle.c_tree.specs.declared.keywords.Keyword.TheVariants as keyword
 use Rattle.c_tree.specs.declared.signs.Sign.TheVariants as sign
@@ -11,17 +11,17 @@ use Rattle.c_tree.specs.declared.statements.Stmt.TheVariants as statement
 use Rattle.c_tree.specs.declared.words.Token.{Token}
 use Rattle.c_tree.specs.declared.words.Word.{Word}
 use Rattle.c_tree.specs.declared.words.Word.TheVariants as word
-use Rattle.c_tree.specs.Reading.{Begins, Best, Within, Covered, Never, Each, each_end, each_more, line_at}
-use Rattle.c_tree.specs.StatementGrammar.{SimpleAt, TestAt, test_at, StmtAt, plain, if_alone, if_else, while, BodyAt, block, single, StmtsAt, no_statement, statements}
+use Rattle.c_tree.specs.Reading.{Begins, Best, Within, Never, Each, each_end, each_more, line_at}
+use Rattle.c_tree.specs.StatementGrammar.{SimpleAt, test_at, StmtAt, plain, if_alone, if_else, while, BodyAt, block, single, StmtsAt, no_statement, statements}
 use Rattle.c_expr.specs.Classes.{At}
 use Rattle.c_expr.specs.Looking.{Lacks}
-use Rattle.c_expr.proofs.Begins.{in_class, begins_shrinks}
+use Rattle.c_expr.proofs.Begins.{in_class}
 use Rattle.c_expr.proofs.Chains.{best_none, best_weaker, each_none, each_on}
 use Rattle.c_expr.proofs.Classes.{at_weaker, at_apart}
-use Rattle.c_decl.specs.Classes.{is_else, is_action, is_statement, is_in_statements}
+use Rattle.c_decl.specs.Classes.{is_else, is_statement, is_in_statements}
 use Rattle.c_decl.specs.Parts.{TestAfter, ElseAt, no_else, other, IfAfter, if_after, WhileAfter}
-use Rattle.c_decl.specs.Sequences.{Then, then, Before, before, Ended, ended, Given, given}
-use Rattle.c_decl.proofs.OneStatement.{simple_first, simple_lacks, statement_first}
+use Rattle.c_decl.specs.Sequences.{Then, then, before, Ended, ended, Given, given}
+use Rattle.c_decl.proofs.OneStatement.{simple_lacks, statement_first}
 use Rattle.c_decl.proofs.Sequences.{then_none, then_is, then_once, ended_lacks, ended_is, end_apart, mapped, best_same}
 
 -- ---- 'else' and its body

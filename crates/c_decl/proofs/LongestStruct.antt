@@ -1,5 +1,5 @@
 -- The longest field and its parts, one lemma for each way in which a reader ends.
-use Rattle.std.proofs.Common.{◌≡◌, ℕ, ◌≤◌, List, [], ◌∷◌, length, Option, None, Some, IsTrue, refl, ap, sym, ◌∙◌, subst}
+use Rattle.std.proofs.Common.{◌≡◌, ℕ, ◌≤◌, List, length, Option, None, Some, IsTrue, refl, ap, sym, ◌∙◌, subst}
 use Rattle.c_tree.specs.declared.items.Arm.{Arm}
 use Rattle.c_tree.specs.declared.items.Declaration.{Declaration}
 use Rattle.c_tree.specs.declared.items.Field.{Field}
@@ -18,7 +18,7 @@ use Rattle.c_expr.proofs.Classes.{at_weaker}
 use Rattle.c_expr.proofs.Firsts.{type_first}
 use Rattle.c_decl.specs.Classes.{is_field}
 use Rattle.c_decl.specs.Parts.{PlainAt, UnionAt}
-use Rattle.c_decl.specs.Sequences.{Then, then, Before, before, Ended, ended, Given, given, Many, many}
+use Rattle.c_decl.specs.Sequences.{Then, then, before, ended, Given, given, many}
 use Rattle.c_decl.proofs.ItemWalks.{arm_piece, field_walk}
 use Rattle.c_decl.proofs.Loops.{passage_shrinks}
 use Rattle.c_decl.proofs.Sequences.{then_none, mapped, best_same}

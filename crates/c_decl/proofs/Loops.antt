@@ -1,5 +1,5 @@
 -- The longest of any number of phrases that have one end each, and of one such phrase or more.
-use Rattle.std.proofs.Common.{◌≡◌, ◌↔◌, ◌+◌, ◌<◌, ◌≤◌, Bool, true, false, IsTrue, List, [], ◌∷◌, ◌++◌, length, None, Some, refl, ap, ◌∙◌, sym, subst, inl, inr, arith}
+use Rattle.std.proofs.Common.{◌≡◌, ◌↔◌, ◌+◌, ◌<◌, ◌≤◌, Bool, true, false, IsTrue, List, [], ◌∷◌, length, None, Some, refl, ap, ◌∙◌, inl, inr, arith}
 use Rattle.std.proofs.lemmas.List.{length-append}
 use Rattle.c_tree.specs.declared.words.Token.{Token}
 use Rattle.c_tree.specs.declared.words.Word.{Word}

@@ -6,8 +6,8 @@ use Rattle.c_tree.specs.declared.signs.Sign.{Sign}
 use Rattle.c_tree.specs.declared.signs.Sign.TheVariants as sign
 use Rattle.c_tree.specs.declared.words.Token.{Token}
 use Rattle.c_tree.specs.declared.words.Word.TheVariants as word
-use Rattle.c_tree.specs.ExpressionGrammar.{null, Row, row, last_row, RowMore, row_end, row_more, UnaryExpr, prefixed, cast, size_of, plain, Postfix, postfix, PostfixMore, postfix_end, field, arrow, index, Primary, single, grouped, null_constant, Closed, closed}
-use Rattle.c_tree.specs.Operators.{binary_of, row_of, BinaryAt}
+use Rattle.c_tree.specs.ExpressionGrammar.{null, Row, row, last_row, RowMore, row_end, row_more, UnaryExpr, prefixed, cast, size_of, plain, Postfix, postfix, PostfixMore, postfix_end, field, arrow, index, Primary, single, grouped, null_constant}
+use Rattle.c_tree.specs.Operators.{binary_of, row_of}
 use Rattle.c_tree.specs.Reading.{Begins, enclosed}
 use Rattle.c_expr.specs.Strength.{operator_strength, sign_strength, front_strength, strength_at}
 

@@ -1,6 +1,5 @@
 -- Parts of items, as they are read.
 use Rattle.std.specs.Prelude.{ℕ, Bool, true, false, List, [], ◌∷◌, ◌++◌, Option, None, Some}
-use Rattle.c_tree.specs.declared.items.Const.{Const}
 use Rattle.c_tree.specs.declared.items.Head.{Head}
 use Rattle.c_tree.specs.declared.items.Item.{Item}
 use Rattle.c_tree.specs.declared.items.Item.TheVariants as item
@@ -11,7 +10,6 @@ use Rattle.c_tree.specs.declared.keywords.Keyword.TheVariants as keyword
 use Rattle.c_tree.specs.declared.signs.Sign.TheVariants as sign
 use Rattle.c_tree.specs.declared.statements.Stmt.{Stmt}
 use Rattle.c_tree.specs.declared.types.Base.{Base}
-use Rattle.c_tree.specs.declared.types.Number.{Number}
 use Rattle.c_tree.specs.declared.types.Star.{Star}
 use Rattle.c_tree.specs.declared.words.Token.{Token}
 use Rattle.c_tree.specs.declared.words.Word.TheVariants as word

@@ -19,3 +19,6 @@ mod structs;
 
 pub use laws::{one_item, one_statement, one_unit};
 pub use reader::read_unit;
+
+#[cfg(test)]
+mod tests;

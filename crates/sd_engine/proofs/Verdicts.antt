@@ -4,8 +4,8 @@ use Rattle.c_tree.specs.declared.items.Unit.{Unit as TextUnit}
 use Rattle.c_tree.specs.Bytes.{Text}
 use Rattle.c_tree.specs.Units.{Reads}
 use Rattle.driver_front.specs.declared.causes.Cause.{Cause}
-use Rattle.sd_engine.specs.declared.drivers.Verdict.{Verdict}
-use Rattle.sd_engine.specs.declared.drivers.Verdict.TheVariants as verdict
+use Rattle.sd_engine.specs.declared.thin_program.Verdict.{Verdict}
+use Rattle.sd_engine.specs.declared.thin_program.Verdict.TheVariants as verdict
 use Rattle.sd_engine.specs.Verdict.{IsVerdict, IsVerdictOf, IsRefused, not_yet}
 
 pub verdict-read : (t : Text) (u : TextUnit) (v : Verdict) → Reads t u → IsVerdictOf u v → IsVerdict t v

@@ -1,6 +1,5 @@
 pub mod Command
 pub mod Meaning
-pub mod Programs
 pub mod Serve
 pub mod Statuses
 pub mod ThinProgram

@@ -7,8 +7,8 @@ use Rattle.c_tree.specs.Units.{Reads}
 use Rattle.driver_front.specs.declared.causes.Cause.{Cause}
 use Rattle.driver_front.specs.declared.causes.Cause.TheVariants as cause
 use Rattle.driver_front.specs.Verdict.{IsUnread, spelling_of}
-use Rattle.sd_engine.specs.declared.drivers.Verdict.{Verdict}
-use Rattle.sd_engine.specs.declared.drivers.Verdict.TheVariants as verdict
+use Rattle.sd_engine.specs.declared.thin_program.Verdict.{Verdict}
+use Rattle.sd_engine.specs.declared.thin_program.Verdict.TheVariants as verdict
 use Rattle.sd_engine.specs.declared.thin_program.Statement.{Statement}
 use Rattle.sd_engine.specs.ThinProgram.{Served, no_item, init, later, program_of}
 

@@ -2,11 +2,12 @@
 ghost use Rattle.std.specs.Prelude.{◌≡◌, ◌≢◌, ◌<◌, ◌≤◌, ◌+◌, ◌^◌, IfOk, MatchOption, OnOk, OnErr, length, map};
 ghost use Rattle.sd_outside.specs.Counts.{HasCause, Rose};
 ghost use Rattle.sd_outside.specs.Sink.{IsCut, more};
-ghost use Rattle.sd_engine.specs.Serve.{AreAccepted, AreShort, CheckAnswers, FirstRefused, IsAfterTexts, IsWritten, Writes, accepted_lines};
+ghost use Rattle.sd_engine.specs.Serve.{AreAccepted, AreShort, CheckAnswers, FirstRefused, IsAfterTexts, IsWritten, Writes, accepted_lines, most_bytes};
 ghost use Rattle.sd_engine.specs.Verdict.{IsAccepted, IsRefused, refusal_line as line_of_refusal};
 
-use crate::drivers::{Verdict, verdict_of};
+use crate::drivers::verdict_of;
 use crate::status::Status;
+use crate::thin_program::Verdict;
 use crate::thin_run::write_count;
 use driver_front::Cause;
 use sd_base::Line;
@@ -71,7 +72,7 @@ fn first_refused(
 
 /// The refusal of a text, where it is refused.
 fn refusal_of(alloc: Global, text: &[u8], driver: usize) -> Result<Option<Refusal>, AllocError>
-    requires { length text.now ≤ 1048576 }
+    requires { length text.now ≤ most_bytes }
     ensures { IfOk result (λ found. MatchOption found
         (IsAccepted text.now)
         (λ refusal. (refusal.driver ≡ driver) × IsRefused text.now refusal.line refusal.cause)) }

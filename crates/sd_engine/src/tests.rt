@@ -158,6 +158,10 @@ fn a_refused_text_is_named_by_line_and_cause(rt: HostRuntime) -> Result<(), Fail
             "int init(void) {\n  return 2147483648; }",
             "refused 1 2 word\n",
         ),
+        (
+            "\nint a234567890123456789012345678901234567890123456789012345678901234;",
+            "refused 1 2 limit\n",
+        ),
         ("int f(void) { return 1 }", "refused 1 1 item\n"),
         ("int init(void) { return 0; }\n\n}", "refused 1 3 item\n"),
         ("\nint g;", "refused 1 2 later\n"),

@@ -3,7 +3,7 @@ ghost use Rattle.std.specs.Prelude.{◌≡◌, ◌≢◌, OnOk, Err, true, map};
 ghost use Rattle.std.specs.String.{string_bytes};
 ghost use Rattle.sd_outside.specs.Counts.{Rose, RoseBeyond};
 ghost use Rattle.sd_engine.specs.Command.{all_differ};
-ghost use Rattle.sd_engine.specs.Serve.{AreTextsBehind, IsFirstLong};
+ghost use Rattle.sd_engine.specs.Serve.{AreTextsBehind, IsFirstLong, most_bytes};
 
 use sd_outside::{Shelf, TextFault, read_text};
 use std::alloc::Global;
@@ -20,7 +20,7 @@ pub fn read_texts<S: Shelf>(
     requires { all_differ (map string_bytes files.now) ≡ true }
     ensures read { OnOk result (AreTextsBehind (S.left shelf.old) (map string_bytes files.now) (map (λ text. text.items) texts.old.items) (map (λ text. text.items) texts.new.items)) }
     ensures too_long { result ≡ Err TextFault.TooLong → IsFirstLong (S.left shelf.old) (map string_bytes files.now) }
-    ensures too_much { result ≡ Err TextFault.TooLong → RoseBeyond 1048576 (S.given shelf.old) (S.given shelf.new) }
+    ensures too_much { result ≡ Err TextFault.TooLong → RoseBeyond most_bytes (S.given shelf.old) (S.given shelf.new) }
     ensures read_fault { result ≡ Err TextFault.ReadFault → Rose (S.faults shelf.old) (S.faults shelf.new) }
     ensures calm { result ≢ Err TextFault.ReadFault → S.faults shelf.new ≡ S.faults shelf.old }
 {

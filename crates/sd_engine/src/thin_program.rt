@@ -2,12 +2,13 @@
 //! sum of numbers, return one, or do nothing.
 ghost use Rattle.std.specs.Prelude.{◌≡◌, IfOk};
 ghost use Rattle.std.specs.Option.{option_map};
-ghost use Rattle.sd_engine.specs.Programs.{served};
-ghost use Rattle.sd_engine.specs.ThinProgram.{action_of, call_of, function_of, init_of, is_init_head as names_init, is_int_result as int_result, is_signed as signed_suffix, joined as both, line_of, number_total as number_sum, program_of, statement_of as meaning, statements_of as meanings, total as total_of};
+ghost use Rattle.sd_engine.specs.ThinProgram.{action_of, call_of, function_of, init_of, is_init_head as names_init, is_int_result as int_result, is_signed as signed_suffix, joined as both, line_of, number_total as number_sum, statement_of as meaning, statements_of as meanings, total as total_of};
+ghost use Rattle.sd_engine.specs.Verdict.{IsVerdictOf};
 
 use c_tree::{
     Action, Base, Binary, Expr, Function, Head, Item, Number, ResultBase, Stmt, Suffix, Unit,
 };
+use driver_front::Cause;
 use sd_base::Name;
 use std::alloc::{AllocError, Global};
 
@@ -37,30 +38,31 @@ pub struct NumberSum {
     pub value: i32,
 }
 
-/// What a run makes of a driver text.
+/// What becomes of a driver text.
 #[derive(Drop)]
-pub enum Program {
-    /// The text has no item, so no function `init`.
+pub enum Verdict {
+    /// It is refused at this line, for this cause.
+    Refused(u32, Cause),
+    /// It has no item, so no function `init`.
     NoItem,
-    /// One function `init`, with these statements.
+    /// It is one function `init` with these statements.
     Init(Vec<Statement>),
-    /// The first item that no run serves yet begins on this line.
-    Later(u32),
 }
 
-/// What a run makes of a driver text. The only error is want of memory.
-pub fn thin_program(alloc: Global, unit: &Unit) -> Result<Program, AllocError>
-    ensures { IfOk result (λ program. served program ≡ program_of unit.now) }
+/// What a run makes of the items of a driver text: the first that it does not serve yet is refused with `Later`, at its line. The only error
+/// is want of memory.
+pub fn thin_program(alloc: Global, unit: &Unit) -> Result<Verdict, AllocError>
+    ensures { IfOk result (λ verdict. IsVerdictOf unit.now verdict) }
 {
     let [first, rest @ ..] = unit.items.as_slice() else {
-        return Ok(Program::NoItem);
+        return Ok(Verdict::NoItem);
     };
     let Some(statements) = init_statements(alloc, first)? else {
-        return Ok(Program::Later(item_line(first)));
+        return Ok(Verdict::Refused(item_line(first), Cause::Later));
     };
     match rest {
-        [] => Ok(Program::Init(statements)),
-        [second, ..] => Ok(Program::Later(item_line(second))),
+        [] => Ok(Verdict::Init(statements)),
+        [second, ..] => Ok(Verdict::Refused(item_line(second), Cause::Later)),
     }
 }
 

@@ -3,14 +3,14 @@ ghost use Rattle.std.specs.Prelude.{◌≡◌, ◌≢◌, ◌≤◌, ◌↔◌, 
 ghost use Rattle.std.specs.String.{string_bytes};
 ghost use Rattle.sd_outside.specs.Counts.{Rose, RoseBeyond};
 ghost use Rattle.sd_engine.specs.Command.{all_differ, check_words, command_of, run_words};
-ghost use Rattle.sd_engine.specs.Serve.{IsAfterTexts, IsPossible, IsServed, IsTooLong, IsWritten, RunAnswers, Starts, Writes, WritesNothing, status_of};
+ghost use Rattle.sd_engine.specs.Serve.{IsAfterTexts, IsPossible, IsServed, IsTooLong, IsWritten, RunAnswers, Starts, Writes, WritesNothing, most_bytes, status_of};
 
 use crate::check::{Refusal, check_texts, write_refusal};
 use crate::command::{Command, read_words};
-use crate::drivers::{Verdict, verdict_of};
+use crate::drivers::verdict_of;
 use crate::status::Status;
 use crate::texts::read_texts;
-use crate::thin_program::Statement;
+use crate::thin_program::{Statement, Verdict};
 use crate::thin_run::{Stage, thin_run};
 use crate::thin_scenario::thin_scenario;
 use sd_outside::{Shelf, Sink, TextFault, read_text, write_all};
@@ -37,7 +37,7 @@ pub fn serve<S: Shelf, K: Sink>(
 
     // A file is too long where the shelf tells it, and over every shelf more than the limit was read.
     ensures too_long { result ≡ Status.TooLong → IfSome (command_of (map string_bytes words.now)) (IsTooLong (S.left shelf.old)) }
-    ensures too_much { result ≡ Status.TooLong → RoseBeyond 1048576 (S.given shelf.old) (S.given shelf.new) }
+    ensures too_much { result ≡ Status.TooLong → RoseBeyond most_bytes (S.given shelf.old) (S.given shelf.new) }
 
     // A write failed exactly where the answer is WriteFault, as far as the sink's count can tell.
     ensures write_fault { result ≡ Status.WriteFault → Rose (K.faults sink.old) (K.faults sink.new) }
@@ -70,7 +70,7 @@ fn serve_run<S: Shelf, K: Sink>(
     ensures read_fault { result ≡ Status.ReadFault → Rose (S.faults shelf.old) (S.faults shelf.new) }
     ensures reads { result ≢ Status.ReadFault → S.faults shelf.new ≡ S.faults shelf.old }
     ensures too_long { result ≡ Status.TooLong → IsTooLong (S.left shelf.old) (run_words scenario.now driver.now) }
-    ensures too_much { result ≡ Status.TooLong → RoseBeyond 1048576 (S.given shelf.old) (S.given shelf.new) }
+    ensures too_much { result ≡ Status.TooLong → RoseBeyond most_bytes (S.given shelf.old) (S.given shelf.new) }
     ensures write_fault { result ≡ Status.WriteFault → Rose (K.faults sink.old) (K.faults sink.new) }
     ensures writes { result ≢ Status.WriteFault → K.faults sink.new ≡ K.faults sink.old }
     ensures nothing { WritesNothing result → K.written sink.new ≡ K.written sink.old }
@@ -101,7 +101,7 @@ fn serve_check<S: Shelf, K: Sink>(
     ensures read_fault { result ≡ Status.ReadFault → Rose (S.faults shelf.old) (S.faults shelf.new) }
     ensures reads { result ≢ Status.ReadFault → S.faults shelf.new ≡ S.faults shelf.old }
     ensures too_long { result ≡ Status.TooLong → IsTooLong (S.left shelf.old) (check_words (map string_bytes files.now)) }
-    ensures too_much { result ≡ Status.TooLong → RoseBeyond 1048576 (S.given shelf.old) (S.given shelf.new) }
+    ensures too_much { result ≡ Status.TooLong → RoseBeyond most_bytes (S.given shelf.old) (S.given shelf.new) }
     ensures write_fault { result ≡ Status.WriteFault → Rose (K.faults sink.old) (K.faults sink.new) }
     ensures writes { result ≢ Status.WriteFault → K.faults sink.new ≡ K.faults sink.old }
     ensures nothing { WritesNothing result → K.written sink.new ≡ K.written sink.old }
@@ -117,7 +117,7 @@ fn serve_check<S: Shelf, K: Sink>(
 
 /// Serves a run whose texts are read.
 fn serve_texts<K: Sink>(alloc: Global, scenario: &[u8], driver: &[u8], sink: &mut K) -> Status
-    requires { length driver.now ≤ 1048576 }
+    requires { length driver.now ≤ most_bytes }
     ensures possible { IsAfterTexts result }
     ensures write_fault { result ≡ Status.WriteFault → Rose (K.faults sink.old) (K.faults sink.new) }
     ensures writes { result ≢ Status.WriteFault → K.faults sink.new ≡ K.faults sink.old }

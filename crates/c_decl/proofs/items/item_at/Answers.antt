@@ -1,4 +1,3 @@
-use Rattle.std.proofs.Common.{None, Some}
 use Rattle.c_decl.proofs.LongestItem.{item_struct, item_none, item_function, item_global}
 use Rattle.c_decl.proofs.items.item_at.Goals as goal
 

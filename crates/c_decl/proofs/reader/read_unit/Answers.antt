@@ -1,6 +1,6 @@
 use Rattle.std.proofs.Common.{◌∷◌, append_assoc}
 use Rattle.c_tree.specs.Reading.{each_more}
-use Rattle.c_tree.specs.Units.{IsUnit, HasNoItem}
+use Rattle.c_tree.specs.Units.{HasNoItem}
 use Rattle.c_decl.proofs.Ends.{unit_read, unit_alone, unit_stops, stop_there, stop_answer, stop_units, stop_lines}
 use Rattle.c_decl.proofs.ShortUnits.{unit_short}
 use Rattle.c_decl.proofs.reader.read_unit.Goals as goal

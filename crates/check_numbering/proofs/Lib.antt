@@ -1,2 +1,3 @@
-pub mod Light
+pub mod AtLine
 pub mod Found
+pub mod Light

@@ -1,3 +1,4 @@
 pub mod Building
 pub mod Lightness
 pub mod Outcome
+pub mod Placed

@@ -47,7 +47,7 @@ fn take_hidden(local: &Local, next: &mut u32) -> Option<u32>
 }
 
 /// Whether a local is a pointer that is written without bounds of its own.
-fn is_automatic(local: &Local) -> bool
+pub fn is_automatic(local: &Local) -> bool
     ensures { result ≡ automatic local.now }
 {
     match local.type_name.stars.as_slice().last() {

@@ -4,8 +4,8 @@
 mod bounds;
 mod table;
 
-pub use bounds::auto_bounds;
-pub use table::LocalTable;
+pub use bounds::{auto_bounds, is_automatic};
+pub use table::{LocalTable, note_first};
 
 #[cfg(test)]
 mod tests;

@@ -76,8 +76,8 @@ impl LocalTable {
     }
 }
 
-/// Notes the slot of a name, unless the name has one already.
-fn note_first(first: &mut IndexMap<Name, u32>, name: &Name, slot: u32) -> Result<(), Memory>
+/// Notes the number of a name, a slot or a function, unless the name has one already. The only refusal is want of memory.
+pub fn note_first(first: &mut IndexMap<Name, u32>, name: &Name, slot: u32) -> Result<(), Memory>
     ensures ok { OnOk result (NotesFirst first.old.entries name.now slot first.new.entries) }
     ensures err { OnErr result (first.new.entries ≡ first.old.entries) }
 {

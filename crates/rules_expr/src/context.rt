@@ -10,6 +10,7 @@ use sqlite_items::Items;
 use std::marker::Model;
 
 /// Where an expression stands: the types of its text, and its function's slots. A contract sees the record of the definitions.
+#[derive(Drop)]
 pub struct Context<'a> {
     /// The types, globals and strings of the text.
     pub types: &'a TypeTable,

@@ -20,7 +20,7 @@ use sqlite_items::Boxed;
 use std::alloc::{AllocError, Global};
 
 /// Whether a pointer with these bounds points to text.
-fn is_nullterm(bounds: &Bounds) -> bool
+pub fn is_nullterm(bounds: &Bounds) -> bool
     ensures { result ≡ spec.is_nullterm bounds.now }
 {
     match bounds {

@@ -1,0 +1,3 @@
+pub mod Leftovers
+pub mod Numbers
+pub mod StatementEquations

@@ -1,3 +1,2 @@
 pub mod Leftovers
 pub mod Numbers
-pub mod StatementEquations

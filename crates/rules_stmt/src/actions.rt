@@ -160,7 +160,7 @@ fn return_from(
 
 /// A simple statement. No rule where none derives it.
 #[tactic(auto, unfolding(deputy_types::specs::Statements::act))]
-pub(crate) fn act(
+pub fn act(
     alloc: Global,
     ctx: &Context<'_>,
     home: &Home<'_>,
@@ -212,7 +212,7 @@ fn tested(alloc: Global, ctx: &Context<'_>, derived: Derived) -> Result<Boxed<Ch
 
 /// The test of an `if` or `while`. No rule where it is no integer or pointer expression.
 #[tactic(auto, unfolding(deputy_types::specs::Deriving::bind, deputy_types::specs::Statements::test))]
-pub(crate) fn test(
+pub fn test(
     alloc: Global,
     ctx: &Context<'_>,
     e: &Expr,

@@ -16,11 +16,9 @@ mod kernel;
 mod kernel_rows;
 mod results;
 mod shape_copies;
-mod stmts;
 mod store;
 mod tags;
 mod targets;
 
-pub use actions::Home;
+pub use actions::{Home, act, test};
 pub use functions::Functions;
-pub use stmts::check_each;

@@ -1,2 +1,0 @@
-pub mod Leftovers
-pub mod Numbers

@@ -75,14 +75,14 @@ act ctx home (action.Zero l) = zero ctx l
 act ctx home (action.Return e) = return_from ctx home.result e
 act ctx home action.Empty = pure (statement.Empty ctx.line)
 
--- the test of an `if` or `while`: an integer or pointer expression
+-- the controlling expression of an `if` or `while` (C99 6.8.4): an integer or pointer expression
 abbrev pub test_form : Value → Option CheckedExpr
 test_form (value.Int w) = Some w.form
 test_form (value.Pointer p) = Some p.form
 test_form value.Null = None
 
-unfoldable pub test : Context → Expr → Deriving CheckedExpr
-test ctx e = derive ctx e >>= λ d. lift (and_then (value_of ctx d) test_form)
+unfoldable pub controlling : Context → Expr → Deriving CheckedExpr
+controlling ctx e = derive ctx e >>= λ d. lift (and_then (value_of ctx d) test_form)
 
 -- what is derived at a line, and then the numbers of its checks and atoms
 abbrev pub with_numbers : {A : Type 0} → ℕ → A → Option Numbered → Result (A × Numbered) Fault
@@ -108,7 +108,7 @@ unfoldable pub simple : Context → Home → Simple → Checking Numbered Checke
 simple ctx home s = at_line ctx s.line (λ c. act c home s.action)
 
 unfoldable pub condition : Context → ℕ → Expr → Checking Numbered CheckedExpr
-condition ctx line e = at_line ctx line (λ c. test c e)
+condition ctx line e = at_line ctx line (λ c. controlling c e)
 
 -- a body that may be missing
 abbrev pub otherwise : Option (Checking Numbered (List CheckedStmt)) → Checking Numbered (List CheckedStmt)

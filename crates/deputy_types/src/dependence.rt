@@ -23,7 +23,7 @@ pub(crate) fn any_names(members: &[Member], sibling: u32) -> bool
 
 /// Whether the bounds of a shape name the sibling.
 #[tactic(auto, unfolding(crate::specs::Table::shape_names))]
-fn shape_names(sibling: u32, shape: &Shape) -> bool
+pub fn shape_names(sibling: u32, shape: &Shape) -> bool
     ensures { result ≡ table.shape_names sibling shape.now }
 {
     match shape {
@@ -35,7 +35,7 @@ fn shape_names(sibling: u32, shape: &Shape) -> bool
 }
 
 /// Whether bounds name the sibling.
-fn bounds_name(sibling: u32, bounds: &Bounds) -> bool
+pub fn bounds_name(sibling: u32, bounds: &Bounds) -> bool
     ensures { result ≡ table.bounds_name sibling bounds.now }
 {
     match bounds {

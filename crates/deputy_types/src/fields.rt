@@ -13,6 +13,7 @@ use crate::typed_shapes::typed_shape;
 use crate::{Extent, Siblings, TypeRefusal, Unannotated};
 use c_tree::{Declaration, LimitKind, Number};
 use checked_tree::{Member, Shape};
+use sd_base::limits::{FIELDS, STRUCT_BYTES};
 use sd_base::{Memory, Name};
 use std::alloc::Global;
 
@@ -119,10 +120,10 @@ pub(crate) fn within_limits(line: u32, fields: u32, end: u64) -> Result<u32, Typ
     ensures room { OnOk result (fields < 64) }
     ensures end { IfOk result (λ e. e ≤ 65536) }
 {
-    if fields >= 64 {
+    if fields >= FIELDS as u32 {
         return Err(TypeRefusal::Limit(line, LimitKind::Fields));
     }
-    if end > 65536 {
+    if end > u64::from(STRUCT_BYTES) {
         return Err(TypeRefusal::Limit(line, LimitKind::Size));
     }
     Ok(end as u32)

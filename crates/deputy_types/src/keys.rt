@@ -181,7 +181,7 @@ pub fn are_constant(text: bool, stars: &[Star]) -> bool
 }
 
 /// All stars but the last.
-fn front_stars(stars: &[Star]) -> &[Star]
+pub fn front_stars(stars: &[Star]) -> &[Star]
     ensures { result.now ≡ spec.front_stars stars.now }
 {
     &stars[..stars.len().saturating_sub(1)]

@@ -28,6 +28,7 @@ mod layout_laws;
 mod load_image;
 mod member_list;
 mod member_types;
+mod modulus;
 mod name_list;
 mod naming;
 mod refusal;
@@ -48,7 +49,7 @@ mod unit_layout;
 
 pub use arms::const_value;
 pub use asked::{Asked, AskedCond};
-pub use dependence::has_names;
+pub use dependence::{bounds_name, has_names, shape_names};
 pub use derived::{
     ArrayPlace, Derived, FoundArm, Place, Pointed, Refusal, Source, UnionPlace, Value, Whole,
     Written,
@@ -65,12 +66,14 @@ pub use handed::{Handed, Passed};
 pub use kernel_calls::{ArgumentKind, KernelArguments};
 pub use kernel_names::kernel_named;
 pub use keys::{
-    are_constant, base_key, constant_sum, is_char, last_star, pointed_key, stars_key, type_key,
+    are_constant, base_key, constant_sum, front_stars, is_char, last_star, pointed_key, stars_key,
+    type_key,
 };
 pub use layout_laws::{
     a_struct_is_laid_out, a_struct_keeps_its_extent, structs_are_nested, zero_bytes_fit,
 };
 pub use member_list::MemberList;
+pub use modulus::low_bits;
 pub use name_list::NameList;
 pub use naming::{Change, Names, Naming};
 pub use refusal::TypeRefusal;
@@ -80,11 +83,6 @@ pub use siblings::Siblings;
 pub use signature::{Returned, Signature};
 pub use struct_names::StructNames;
 pub use table::{GlobalPlace, TypeTable};
-pub use typed_shapes::typed_shape;
+pub use typed_shapes::{shape_behind, typed_shape};
 pub use types::Types;
 pub use unit_layout::layouts;
-
-#[cfg(test)]
-mod layout_tests;
-#[cfg(test)]
-mod tests;

@@ -1,20 +1,17 @@
 //! The load image of a text: a block for each global, then one for each string.
 ghost use Rattle.std.specs.Prelude.{◌≡◌, [], ◌∷◌, ◌++◌, ◌+◌, ◌*◌, ◌≤◌, IfOk, length};
 ghost use Rattle.byte_memory.specs.Bytes.{low_bytes, zeros};
-ghost use Rattle.checked_tree.specs.Numbers.{low_bits};
 ghost use Rattle.deputy_types.specs.UnitLayout as spec;
 ghost use Rattle.deputy_types.specs.UnitLayout.{IsAnswer, IsImage};
 
 use crate::unit_items::Declared;
-use crate::{GlobalShape, TypeRefusal, round_up_to};
+use crate::{GlobalShape, TypeRefusal, low_bits, round_up_to};
 use c_tree::LimitKind;
 use checked_tree::ImageBlock;
 use sd_base::Memory;
+use sd_base::limits::IMAGE_END;
 use sqlite_items::Items;
 use std::alloc::Global;
-
-/// The end of the longest load image.
-const GREATEST_END: u32 = 524_288;
 
 /// A load image so far.
 #[derive(Drop)]
@@ -32,24 +29,10 @@ fn image_end(line: u32, base: u32, bytes: u64) -> Result<u32, TypeRefusal>
     ensures within { IfOk result (λ end. end ≤ 524288) }
 {
     let end = base as u128 + bytes as u128;
-    if end > GREATEST_END as u128 {
+    if end > IMAGE_END as u128 {
         return Err(TypeRefusal::Limit(line, LimitKind::Image));
     }
     Ok(end as u32)
-}
-
-/// How many numbers a word can be.
-const WORDS: u64 = 4_294_967_296;
-
-/// A number modulo 2^32.
-fn low_word(value: i64) -> u32
-    ensures { result ≡ low_bits 32 value }
-{
-    let size = value.unsigned_abs();
-    if value < 0 {
-        return u32::MAX - ((size - 1) % WORDS) as u32;
-    }
-    (size % WORDS) as u32
 }
 
 /// So many zeros.
@@ -95,7 +78,7 @@ fn first_bytes(alloc: Global, global: &GlobalShape, size: u32) -> Result<Items<u
     if global.value == 0 {
         return zero_bytes(alloc, size);
     }
-    word_bytes(alloc, global.size, low_word(global.value))
+    word_bytes(alloc, global.size, low_bits(32, global.value))
 }
 
 /// The bytes of a global.

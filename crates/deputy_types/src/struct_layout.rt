@@ -16,11 +16,9 @@ use crate::{Extent, NameList, Siblings, StructNames, TypeRefusal, Types};
 use c_tree::{Field, LimitKind, StructItem};
 use checked_tree::StructShape;
 use sd_base::Memory;
+use sd_base::limits::STRUCTS;
 use sqlite_items::Items;
 use std::alloc::Global;
-
-/// The number of structs that a text may have.
-const STRUCTS: u32 = 256;
 
 /// A struct without fields.
 fn empty_struct(alloc: Global) -> Laying

@@ -78,7 +78,7 @@ fn pointer_shape(
 }
 
 /// The shape of what this last star, if there is one, makes of the type `key`.
-fn shape_behind(
+pub fn shape_behind(
     alloc: Global,
     types: &Types,
     extents: &[Extent],

@@ -7,15 +7,10 @@ use crate::struct_layout::struct_laid;
 use crate::unit_globals::global_declared;
 use crate::{Extent, GlobalShape, NameList, TypeRefusal, Types};
 use c_tree::{GlobalItem, Item, LimitKind, StructItem};
+use sd_base::limits::{FUNCTIONS, GLOBALS};
 use sd_base::{Memory, Name};
 use sqlite_items::Items;
 use std::alloc::Global;
-
-/// How many globals and strings a text may have.
-const MOST_BLOCKS: usize = 1024;
-
-/// How many functions with bodies a text may have.
-const MOST_BODIES: u32 = 4096;
 
 /// The declarations so far.
 #[derive(Drop)]
@@ -77,7 +72,7 @@ fn with_global(
     let Some(shape) = global_declared(types, &declared, global) else {
         return Err(TypeRefusal::NoDecl(global.line));
     };
-    if declared.globals.len() + declared.lines.len() >= MOST_BLOCKS {
+    if declared.globals.len() + declared.lines.len() >= GLOBALS {
         return Err(TypeRefusal::Limit(global.line, LimitKind::Globals));
     }
     Ok(with_global_shape(declared, &global.declaration.name, shape)?)
@@ -147,7 +142,7 @@ fn are_too_many(globals: usize, strings: usize) -> bool
     requires { globals ≤ 1024 }
     ensures { result ≡ nat_lt 1024 (globals + strings) }
 {
-    strings > MOST_BLOCKS - globals
+    strings > GLOBALS - globals
 }
 
 /// With a function, behind which so many strings stand: within the limits on bodies, and on globals and strings together.
@@ -162,7 +157,7 @@ fn with_function(
     ensures answer { IsAnswer (spec.with_function declared name.now line strings) result }
     ensures within { IfOk result IsDeclared }
 {
-    if declared.bodies >= MOST_BODIES {
+    if declared.bodies >= FUNCTIONS as u32 {
         return Err(TypeRefusal::Limit(line, LimitKind::Functions));
     }
     if are_too_many(declared.globals.len(), strings) {

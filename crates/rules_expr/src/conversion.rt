@@ -1,8 +1,9 @@
 //! Conversion to an integer type: modulo 2^bits (C99 6.3.1.3, and two's complement).
-ghost use Rattle.std.specs.Prelude.{◌≡◌, ◌≤◌, ◌<◌, ◌^◌, pos};
+ghost use Rattle.std.specs.Prelude.{◌≡◌, ◌≤◌};
 ghost use Rattle.checked_tree.specs.Numbers as spec;
 
 use checked_tree::Scalar;
+use deputy_types::low_bits;
 
 /// A number converted to a type. An address stays as it is.
 #[tactic(auto, unfolding(checked_tree::specs::Numbers::converted))]
@@ -18,20 +19,6 @@ pub fn converted(scalar: Scalar, z: i64) -> i64
         Scalar::I32 => signed(32, low_bits(32, z)),
         Scalar::U32 => i64::from(low_bits(32, z)),
         Scalar::Pointer { size: _ } => z,
-    }
-}
-
-/// A number modulo 2^n.
-fn low_bits(n: u32, z: i64) -> u32
-    requires { n ≤ 32 }
-    ensures value { result ≡ spec.low_bits n z }
-    ensures small { result < 2 ^ n }
-{
-    let modulus = 1u64 << n;
-    if z < 0 {
-        (modulus - 1 - (-(z + 1)) as u64 % modulus) as u32
-    } else {
-        (z as u64 % modulus) as u32
     }
 }
 

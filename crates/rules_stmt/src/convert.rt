@@ -1,0 +1,169 @@
+//! Conversions: what a type makes of the expression that it is handed.
+ghost use Rattle.std.specs.Prelude.{◌≡◌, ◌&&◌, if◌then◌else◌, Some, None, IfOk};
+ghost use Rattle.deputy_types.specs.Coercion as spec;
+ghost use Rattle.deputy_types.specs.Deriving.{Gives};
+ghost use Rattle.deputy_types.specs.Operators.{same_truth};
+ghost use Rattle.deputy_types.specs.Pointers as pointers;
+ghost use Rattle.deputy_types.specs.Types as types;
+
+use checked_tree::{CheckedExpr, Part, Scalar, Unary};
+use deputy_types::{Derived, Element, Handed, Pointed, Refusal, Value, Whole};
+use rules_expr::{
+    Context, atom_part, constant, constant_of, constant_part, converted, copy_form, is_written,
+    null_form, same_element, unary_form, value_of,
+};
+use std::alloc::{AllocError, Global};
+
+/// Whether the first type has every value of the second.
+#[tactic(auto, unfolding(deputy_types::specs::Coercion::has_all))]
+fn has_all(to: Scalar, from: Scalar) -> bool
+    ensures { result ≡ spec.has_all to from }
+{
+    match to {
+        Scalar::U8 => matches!(from, Scalar::U8),
+        Scalar::I8 => matches!(from, Scalar::I8),
+        Scalar::U16 => matches!(from, Scalar::U8 | Scalar::U16),
+        Scalar::I16 => matches!(from, Scalar::U8 | Scalar::I8 | Scalar::I16),
+        Scalar::I32 => matches!(
+            from,
+            Scalar::U8 | Scalar::I8 | Scalar::U16 | Scalar::I16 | Scalar::I32
+        ),
+        Scalar::U32 => matches!(from, Scalar::U8 | Scalar::U16 | Scalar::U32),
+        Scalar::Void => false,
+        Scalar::Pointer { size: _ } => false,
+    }
+}
+
+/// The cast of an expression in a check.
+fn cast_part(alloc: Global, scalar: Scalar, form: &CheckedExpr) -> Result<Part, AllocError>
+    ensures { IfOk result (λ p. p ≡ spec.cast_part scalar form.now) }
+{
+    let cast = unary_form(alloc, Unary::Cast, scalar, copy_form(alloc, form)?)?;
+    atom_part(alloc, cast.get())
+}
+
+/// An expression in a check after its conversion: itself where the type has each of its values, or else its cast.
+fn cast_side(alloc: Global, scalar: Scalar, w: &Whole) -> Result<Part, AllocError>
+    ensures { IfOk result (λ p. p ≡ spec.side_by None scalar w.now) }
+{
+    if has_all(scalar, w.scalar) {
+        atom_part(alloc, w.form.get())
+    } else {
+        cast_part(alloc, scalar, w.form.get())
+    }
+}
+
+/// The converted constant, or else the converted expression.
+fn side_by(
+    alloc: Global,
+    constant: Option<i64>,
+    scalar: Scalar,
+    w: &Whole,
+) -> Result<Part, AllocError>
+    ensures { IfOk result (λ p. p ≡ spec.side_by constant scalar w.now) }
+{
+    match constant {
+        Some(z) => Ok(constant_part(converted(scalar, z))),
+        None => cast_side(alloc, scalar, w),
+    }
+}
+
+/// An integer expression in a check after its conversion to a type: the converted constant, the same expression where the type has each of its values, or else
+/// its cast. The only refusal is want of memory.
+#[tactic(auto, unfolding(deputy_types::specs::Coercion::converted_side))]
+pub(crate) fn converted_side(alloc: Global, scalar: Scalar, w: &Whole) -> Result<Part, AllocError>
+    ensures { IfOk result (λ p. p ≡ spec.converted_side scalar w.now) }
+{
+    side_by(alloc, constant_of(w.written), scalar, w)
+}
+
+/// The null constant, where a pointer is wanted. The only refusal is want of memory.
+pub(crate) fn null(alloc: Global) -> Result<Handed, AllocError>
+    ensures { IfOk result (λ h. h ≡ spec.null) }
+{
+    let at = constant(alloc, 0)?;
+    let low = constant(alloc, 0)?;
+    let high = constant(alloc, 0)?;
+    let form = null_form(alloc)?;
+    Ok(Handed {
+        form,
+        null: true,
+        at,
+        low,
+        high,
+    })
+}
+
+/// The number 0 without suffix as the null constant. No rule where it is any other.
+pub(crate) fn null_number(alloc: Global, w: Whole) -> Result<Handed, Refusal>
+    ensures { Gives (if pointers.is_written 0 w.written then Some spec.null else None) result }
+{
+    if is_written(0, w.written) {
+        Ok(null(alloc)?)
+    } else {
+        Err(Refusal::NoRule)
+    }
+}
+
+/// A pointer expression, where a pointer is wanted.
+pub(crate) fn handed_over(p: Pointed) -> Handed
+    ensures { result ≡ spec.handed_over p }
+{
+    Handed {
+        form: p.form,
+        null: false,
+        at: p.at,
+        low: p.low,
+        high: p.high,
+    }
+}
+
+/// Whether a pointer expression is one to this element, nullterm or not.
+fn is_pointer_to(key: Element, nullterm: bool, p: &Pointed) -> bool
+    ensures { result ≡ (types.same_element p.now.elem key && same_truth p.now.nullterm nullterm) }
+{
+    same_element(p.elem, key) && p.nullterm == nullterm
+}
+
+/// A pointer expression, where a pointer to this element is wanted.
+fn handed_pointer(key: Element, nullterm: bool, p: Pointed) -> Result<Handed, Refusal>
+    ensures { Gives (if types.same_element p.elem key && same_truth p.nullterm nullterm then Some (spec.handed_over p) else None) result }
+{
+    if is_pointer_to(key, nullterm, &p) {
+        Ok(handed_over(p))
+    } else {
+        Err(Refusal::NoRule)
+    }
+}
+
+/// A value where a pointer to this element is wanted.
+#[tactic(auto, unfolding(deputy_types::specs::Coercion::handed_value))]
+fn handed_value(
+    alloc: Global,
+    key: Element,
+    nullterm: bool,
+    value: Value,
+) -> Result<Handed, Refusal>
+    ensures { Gives (spec.handed_value key nullterm value) result }
+{
+    match value {
+        Value::Null => Ok(null(alloc)?),
+        Value::Int(w) => null_number(alloc, w),
+        Value::Pointer(p) => handed_pointer(key, nullterm, p),
+    }
+}
+
+/// What was derived, where a pointer to this element is wanted, nullterm or not: a pointer of that type, or a null constant, as which the number 0 without suffix
+/// counts. No rule where it is neither.
+pub(crate) fn handed(
+    alloc: Global,
+    ctx: &Context<'_>,
+    key: Element,
+    nullterm: bool,
+    derived: Derived,
+) -> Result<Handed, Refusal>
+    ensures { Gives (spec.handed ctx.now key nullterm derived) result }
+{
+    let value = value_of(alloc, ctx, derived)?;
+    handed_value(alloc, key, nullterm, value)
+}

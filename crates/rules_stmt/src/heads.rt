@@ -1,0 +1,257 @@
+//! Which heads, parameters and locals stand, and the line of the first that does not.
+ghost use Rattle.std.specs.Prelude.{◌≡◌, ◌&&◌, ◌<◌, ◌^◌, length, Some, IfOk, is_some, option_copied, position, slice_get};
+ghost use Rattle.deputy_types.specs.Agreement as agreement;
+ghost use Rattle.deputy_types.specs.Heads as spec;
+ghost use Rattle.deputy_types.specs.Options.{and_then};
+ghost use Rattle.rules_stmt.specs.Texts.{text};
+
+use crate::agreement::{agree, parameter_place};
+use crate::declared::result_of;
+use crate::functions::Functions;
+use c_tree::{Function, Head, Item, Local, Param};
+use checked_tree::Shape;
+use dep_infer::LocalTable;
+use deputy_types::{NameList, TypeTable, kernel_named};
+use sd_base::{Memory, Name};
+use sqlite_items::at;
+use std::alloc::Global;
+
+/// The head that an item has.
+fn head_in(item: &Item) -> Option<&Head>
+    ensures { option_copied result ≡ spec.head_in item.now }
+{
+    match item {
+        Item::Struct(_) => None,
+        Item::Global(_) => None,
+        Item::Function(f) => Some(&f.head),
+        Item::Prototype(h) => Some(h),
+    }
+}
+
+/// Whether this is a head with this name.
+fn is_named_head(name: &Name, head: Option<&Head>) -> bool
+    ensures { result ≡ spec.is_named_head name.now (option_copied head.entry) }
+{
+    match head {
+        Some(h) => name.bytes() == h.name.bytes(),
+        None => false,
+    }
+}
+
+/// Whether an item has a head of this name.
+fn heads_name(name: &Name, item: &Item) -> bool
+    ensures { result ≡ spec.heads_name name.now item.now }
+{
+    is_named_head(name, head_in(item))
+}
+
+/// The place of the first item with a head of this name.
+fn head_place(items: &[Item], name: &Name) -> Option<usize>
+    ensures { result ≡ position (spec.heads_name name.now) items.now }
+{
+    items.iter().position(|item| heads_name(name, item))
+}
+
+/// The head of the item at this place.
+fn head_at(items: &[Item], k: usize) -> Option<&Head>
+    ensures { option_copied result ≡ and_then (slice_get items.now k) spec.head_in }
+{
+    match at(items, k) {
+        Some(item) => head_in(item),
+        None => None,
+    }
+}
+
+/// The first head with this name.
+#[tactic(auto, unfolding(deputy_types::specs::Heads::first_head))]
+fn first_head<'a>(items: &'a [Item], name: &Name) -> Option<&'a Head>
+    ensures { option_copied result ≡ spec.first_head items.now name.now }
+{
+    match head_place(items, name) {
+        Some(k) => head_at(items, k),
+        None => None,
+    }
+}
+
+/// Whether a head agrees with the first head of its name.
+fn agrees_with(structs: &NameList, first: Option<&Head>, h: &Head) -> bool
+    ensures { result ≡ spec.agrees_with structs.now (option_copied first.entry) h.now }
+{
+    match first {
+        Some(g) => agree(structs, g, h),
+        None => true,
+    }
+}
+
+/// Whether a result is derived, of a head that agrees with the first one of its name.
+fn agreed_stands(alloc: Global, table: &TypeTable, items: &[Item], h: &Head) -> Result<bool, Memory>
+    ensures { IfOk result (λ b. b ≡ (spec.agrees_with table.now.types.structs (spec.first_head items.now h.now.name) h.now && is_some (spec.result_of table.now h.now))) }
+{
+    if agrees_with(&table.types().structs, first_head(items, &h.name), h) {
+        match result_of(alloc, table, h)? {
+            Some(_) => Ok(true),
+            None => Ok(false),
+        }
+    } else {
+        Ok(false)
+    }
+}
+
+/// Whether a head stands: no kernel call and no global has its name, it agrees with the first head of its name, and its result is derived. The only refusal is want of
+/// memory.
+#[tactic(auto, unfolding(deputy_types::specs::Heads::head_stands))]
+pub(crate) fn head_stands(
+    alloc: Global,
+    table: &TypeTable,
+    items: &[Item],
+    functions: &Functions,
+    h: &Head,
+) -> Result<bool, Memory>
+    ensures { IfOk result (λ b. b ≡ spec.head_stands (text table.now items.now functions.now) h.now) }
+{
+    match kernel_named(&h.name) {
+        Some(_) => Ok(false),
+        None => match table.global(&h.name) {
+            Some(_) => Ok(false),
+            None => agreed_stands(alloc, table, items, h),
+        },
+    }
+}
+
+/// Whether a number is this one.
+fn is_at(number: Option<u32>, k: usize) -> bool
+    ensures { result ≡ agreement.same_place number (Some k) }
+{
+    match number {
+        Some(n) => n as usize == k,
+        None => false,
+    }
+}
+
+/// Whether the head of the k-th function with a body stands: none before it has its name. The only refusal is want of memory.
+#[tactic(auto, unfolding(deputy_types::specs::Heads::function_stands))]
+pub(crate) fn function_stands(
+    alloc: Global,
+    table: &TypeTable,
+    items: &[Item],
+    functions: &Functions,
+    k: usize,
+    h: &Head,
+) -> Result<bool, Memory>
+    ensures { IfOk result (λ b. b ≡ spec.function_stands (text table.now items.now functions.now) k h.now) }
+{
+    if head_stands(alloc, table, items, functions, h)? {
+        Ok(is_at(functions.number(&h.name), k))
+    } else {
+        Ok(false)
+    }
+}
+
+/// Whether the i-th shape is there.
+fn is_declared(shapes: &[Option<Shape>], i: usize) -> bool
+    ensures { result ≡ spec.is_declared shapes.now i }
+{
+    match at(shapes, i) {
+        Some(Some(_)) => true,
+        Some(None) => false,
+        None => false,
+    }
+}
+
+/// Whether the i-th parameter or local stands: it is the first that has its name, and its shape is derived.
+#[tactic(auto, unfolding(deputy_types::specs::Heads::declaration_stands))]
+fn declaration_stands(locals: &LocalTable, shapes: &[Option<Shape>], i: usize, name: &Name) -> bool
+    ensures { result ≡ spec.declaration_stands locals.now shapes.now i name.now }
+{
+    is_at(locals.slot(name), i) && is_declared(shapes, i)
+}
+
+/// The line of the first parameter that does not stand.
+fn wrong_parameter(locals: &LocalTable, shapes: &[Option<Shape>], params: &[Param]) -> Option<u32>
+    ensures { result ≡ spec.wrong_parameter locals.now shapes.now 0 params.now }
+{
+    for (i, param) in params.iter().enumerate() {
+        if !declaration_stands(locals, shapes, i, &param.name) {
+            return Some(param.line);
+        }
+    }
+    None
+}
+
+/// The line of the first local that does not stand, where `start` is the slot of the first local.
+fn wrong_local(
+    locals: &LocalTable,
+    shapes: &[Option<Shape>],
+    start: usize,
+    list: &[Local],
+) -> Option<u32>
+    requires { start < 2 ^ 32 }
+    ensures { result ≡ spec.wrong_local locals.now shapes.now start list.now }
+{
+    for (i, local) in list.iter().enumerate() {
+        if !declaration_stands(locals, shapes, start + i, &local.name) {
+            return Some(local.line);
+        }
+    }
+    None
+}
+
+/// The line of the first parameter or local of a function that does not stand.
+#[tactic(auto, unfolding(deputy_types::specs::Heads::wrong_declaration))]
+pub(crate) fn wrong_declaration(
+    locals: &LocalTable,
+    shapes: &[Option<Shape>],
+    f: &Function,
+) -> Option<u32>
+    requires { length f.now.head.params < 2 ^ 32 }
+    ensures { result ≡ spec.wrong_declaration locals.now shapes.now f.now }
+{
+    let params = f.head.params.as_slice();
+    match wrong_parameter(locals, shapes, params) {
+        Some(line) => Some(line),
+        None => wrong_local(locals, shapes, params.len(), f.locals.as_slice()),
+    }
+}
+
+/// Whether a parameter of a prototype stands likewise.
+#[tactic(auto, unfolding(deputy_types::specs::Heads::prototype_parameter_stands))]
+fn prototype_parameter_stands(
+    params: &[Param],
+    shapes: &[Option<Shape>],
+    i: usize,
+    name: &Name,
+) -> bool
+    ensures { result ≡ spec.prototype_parameter_stands params.now shapes.now i name.now }
+{
+    is_place(parameter_place(params, name), i) && is_declared(shapes, i)
+}
+
+/// Whether a place is this one.
+fn is_place(place: Option<usize>, i: usize) -> bool
+    ensures { result ≡ agreement.same_place place (Some i) }
+{
+    match place {
+        Some(k) => k == i,
+        None => false,
+    }
+}
+
+/// The line of the first parameter of a prototype that does not stand, by the shapes of its parameters.
+#[tactic(auto, unfolding(deputy_types::specs::Heads::wrong_in_prototype))]
+pub(crate) fn wrong_in_prototype(shapes: &[Option<Shape>], h: &Head) -> Option<u32>
+    ensures { result ≡ spec.wrong_in_prototype shapes.now h.now }
+{
+    wrong_prototype_parameter(h.params.as_slice(), shapes)
+}
+
+/// The same of its parameters.
+fn wrong_prototype_parameter(params: &[Param], shapes: &[Option<Shape>]) -> Option<u32>
+    ensures { result ≡ spec.wrong_prototype_parameter params.now shapes.now 0 params.now }
+{
+    for (i, param) in params.iter().enumerate() {
+        if !prototype_parameter_stands(params, shapes, i, &param.name) {
+            return Some(param.line);
+        }
+    }
+    None
+}

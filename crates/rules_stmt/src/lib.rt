@@ -1,0 +1,26 @@
+//! The rules of statements: what each statement of a driver text derives, and the run-time checks that it asks for.
+#![tactic(auto)]
+
+mod actions;
+mod agreement;
+mod arguments;
+mod assign;
+mod calls;
+mod changes;
+mod coerce;
+mod convert;
+mod declared;
+mod functions;
+mod handlers;
+mod heads;
+mod kernel;
+mod kernel_rows;
+mod results;
+mod shape_copies;
+mod stmts;
+mod store;
+mod tags;
+mod targets;
+mod unit;
+
+pub use unit::check_unit;

@@ -120,7 +120,7 @@ pub(crate) fn within_limits(line: u32, fields: u32, end: u64) -> Result<u32, Typ
     ensures room { OnOk result (fields < 64) }
     ensures end { IfOk result (λ e. e ≤ 65536) }
 {
-    if fields >= FIELDS as u32 {
+    if fields as usize >= FIELDS {
         return Err(TypeRefusal::Limit(line, LimitKind::Fields));
     }
     if end > u64::from(STRUCT_BYTES) {

@@ -126,7 +126,7 @@ fn head_of_struct(types: &Types, number: u32, s: &StructItem) -> Option<TypeRefu
     if types.structs.number(&s.name) != Some(number) {
         return Some(TypeRefusal::NoDecl(s.line));
     }
-    if number >= STRUCTS {
+    if number as usize >= STRUCTS {
         return Some(TypeRefusal::Limit(s.line, LimitKind::Structs));
     }
     None

@@ -157,7 +157,7 @@ fn with_function(
     ensures answer { IsAnswer (spec.with_function declared name.now line strings) result }
     ensures within { IfOk result IsDeclared }
 {
-    if declared.bodies >= FUNCTIONS as u32 {
+    if declared.bodies as usize >= FUNCTIONS {
         return Err(TypeRefusal::Limit(line, LimitKind::Functions));
     }
     if are_too_many(declared.globals.len(), strings) {

@@ -1,0 +1,2 @@
+pub mod StructTable
+pub mod ZeroBytes

@@ -6,3 +6,6 @@ pub mod Declarations
 pub mod Passes
 pub mod StructsDeclared
 pub mod ZeroValues
+pub mod Lists
+pub mod Blocks
+pub mod GlobalsDeclared

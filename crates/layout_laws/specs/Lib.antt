@@ -1,2 +1,3 @@
 pub mod StructTable
 pub mod ZeroBytes
+pub mod LoadImage

@@ -9,3 +9,4 @@ pub mod ZeroValues
 pub mod Lists
 pub mod Blocks
 pub mod GlobalsDeclared
+pub mod FoundGrowth

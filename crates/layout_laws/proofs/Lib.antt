@@ -10,3 +10,5 @@ pub mod Lists
 pub mod Blocks
 pub mod GlobalsDeclared
 pub mod FoundGrowth
+pub mod StringsFound
+pub mod ElementSizes

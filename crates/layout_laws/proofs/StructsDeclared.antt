@@ -14,7 +14,7 @@ use Rattle.deputy_types.specs.Fitting.{AreNested}
 use Rattle.deputy_types.specs.StructLaws.{IsLaidOut, IsStruct}
 use Rattle.deputy_types.specs.StructLayout.{struct_laid}
 use Rattle.deputy_types.specs.Table.{Table}
-use Rattle.deputy_types.specs.UnitLayout.{IsDeclared, nothing_declared, no_structs, table_of, layout}
+use Rattle.deputy_types.specs.UnitLayout.{IsDeclared, nothing_declared, no_structs, elem_shape, table_of, layout}
 use Rattle.deputy_types.proofs.MembersLie.{laid_out-lies}
 use Rattle.deputy_types.proofs.Nested.{nested}
 use Rattle.layout_laws.proofs.Outcomes.{Laid}
@@ -68,8 +68,9 @@ pub record HasLayouts (u : TextUnit) (t : Table) : Type 0 where
   pub extents : t.extents ≡ extents_of laid
   pub shapes : t.structs ≡ shapes_of laid
   pub names : t.names ≡ names_of laid
+  pub elems : t.elems ≡ map (elem_shape t.types.elements t.extents) t.types.elements
 
-nothing_is_declared : IsDeclared nothing_declared
+pub nothing_is_declared : IsDeclared nothing_declared
 nothing_is_declared = record { extents = record { each = λ s. no_extent_is }; structs = omega arith; names = omega arith; blocks = omega arith }
 
 pub layouts_of : (u : TextUnit) (t : Table) → layout u ≡ Ok t → HasLayouts u t
@@ -87,6 +88,7 @@ layouts_of u t h =
       extents = both.extents;
       shapes = both.shapes;
       names = both.names;
+      elems = refl;
     } in
     subst (λ (x : Table). HasLayouts u x) all.is has
 

@@ -59,7 +59,7 @@ numbered elements key n h =
     slice_get-get_or elements n key p.0 ∙ ap (λ (k : Element). Some k) (sym (same_elements key _ p.1))
 
 -- ---- the bytes of a type
-scalar_same : (s : Scalar) → scalar_size s ≡ (scalar_extent s).bytes
+pub scalar_same : (s : Scalar) → scalar_size s ≡ (scalar_extent s).bytes
 scalar_same scalar.Void = refl
 scalar_same scalar.U8 = refl
 scalar_same scalar.I8 = refl

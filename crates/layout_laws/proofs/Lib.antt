@@ -12,3 +12,5 @@ pub mod GlobalsDeclared
 pub mod FoundGrowth
 pub mod StringsFound
 pub mod ElementSizes
+pub mod FirstValues
+pub mod ImageLaws

@@ -31,7 +31,7 @@ unfolding bytes_at
 zero_bytes bytes at n h = zero_number n (drop at bytes) (λ i l. get_or-drop at bytes i 0 ∙ h i l)
 
 -- 0 is 0 in each integer type
-zero_converted : (s : Scalar) → converted s (pos 0) ≡ pos 0
+pub zero_converted : (s : Scalar) → converted s (pos 0) ≡ pos 0
 unfolding converted
 zero_converted scalar.Void = refl
 zero_converted scalar.U8 = refl
@@ -42,7 +42,7 @@ zero_converted scalar.I32 = refl
 zero_converted scalar.U32 = refl
 zero_converted (scalar.Pointer n) = refl
 
-zero_place : (structs : List StructShape) (bytes : List ℕ) (at : ℕ) (x : Shape) → AreZero bytes at (shape_size structs x) → place_value bytes at x ≡ pos 0
+pub zero_place : (structs : List StructShape) (bytes : List ℕ) (at : ℕ) (x : Shape) → AreZero bytes at (shape_size structs x) → place_value bytes at x ≡ pos 0
 zero_place structs bytes at (shape.Int s) h = ap (λ (n : ℕ). converted s (pos n)) (zero_bytes bytes at (scalar_size s) h) ∙ zero_converted s
 zero_place structs bytes at (shape.Pointer elem b) h = ap (λ (n : ℕ). pos n) (zero_bytes bytes at 4 h)
 zero_place structs bytes at (shape.Struct s) h = refl

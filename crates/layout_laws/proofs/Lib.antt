@@ -14,3 +14,8 @@ pub mod StringsFound
 pub mod ElementSizes
 pub mod FirstValues
 pub mod ImageLaws
+pub mod Places
+pub mod StructNumbers
+pub mod GlobalNumbers
+pub mod LimitLaws
+pub mod ImageFits

@@ -97,7 +97,7 @@ mapped : {X Y : Type 0} (f : X → Y) (ys : List Y) (xs : List X) (k : ℕ) (x :
 mapped f ys xs k x e at = ap (λ l. slice_get l k) e ∙ (slice_get-map f xs k ∙ ap (option_map f) at)
 
 -- and back
-from_mapped : {X Y : Type 0} (f : X → Y) (xs : List X) (k : ℕ) (y : Y) → slice_get (map f xs) k ≡ Some y → (x : X) × (slice_get xs k ≡ Some x) × (f x ≡ y)
+pub from_mapped : {X Y : Type 0} (f : X → Y) (xs : List X) (k : ℕ) (y : Y) → slice_get (map f xs) k ≡ Some y → (x : X) × (slice_get xs k ≡ Some x) × (f x ≡ y)
 from_mapped f [] k y e = absurd cc
 from_mapped f (x ∷ xs) zero y e = (x, refl, cc)
 from_mapped f (x ∷ xs) (suc k) y e = from_mapped f xs k y e

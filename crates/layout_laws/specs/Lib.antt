@@ -1,3 +1,6 @@
 pub mod StructTable
 pub mod ZeroBytes
 pub mod LoadImage
+pub mod Lookups
+pub mod Limits
+pub mod FirstFits

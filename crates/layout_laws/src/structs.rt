@@ -1,6 +1,5 @@
 //! The structs of a table, and zero bytes.
-ghost use Rattle.layout_laws.specs.StructTable.{EachStructIsDeclared};
-ghost use Rattle.layout_laws.specs.StructTable.{StructsAreNested};
+ghost use Rattle.layout_laws.specs.StructTable.{EachStructIsDeclared, StructsAreNested};
 ghost use Rattle.layout_laws.specs.ZeroBytes.{ZeroIsValid};
 
 /// The structs of a table are those that the text declares, in its order: each is the layout of its own declaration with the extents of all, those declared

@@ -19,3 +19,4 @@ pub mod StructNumbers
 pub mod GlobalNumbers
 pub mod LimitLaws
 pub mod ImageFits
+pub mod MemberNumbers

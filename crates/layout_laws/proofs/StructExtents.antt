@@ -87,7 +87,7 @@ union_laying at x line arms name out extents h p =
     let more : length next.unions ≤ length x.unions + 1 = rw length_push (omega arith) in
     subst (λ (o : Laying). IsLaying o) same (next_laying x next extent h is (record { few = e.few; low = e.low }) refl refl more)
 
-any_laying : (at : Surroundings) (x : Laying) (f : Field) (out : Laying) → AreExtents at.extents → IsLaying x → with_any_field at x f ≡ Ok out → IsLaying out
+pub any_laying : (at : Surroundings) (x : Laying) (f : Field) (out : Laying) → AreExtents at.extents → IsLaying x → with_any_field at x f ≡ Ok out → IsLaying out
 any_laying at x (field.Plain line d) out extents h p = plain_laying at x line d out extents h p
 any_laying at x (field.Union line arms name) out extents h p = union_laying at x line arms name out extents h p
 
@@ -137,7 +137,7 @@ laying_of types extents number s laid h =
     let n = ok_then (with_fields_in_turn at empty_struct s.fields) (λ laying. Ok (laid_out types s.fields siblings laying)) laid u in
     record { laying = n.0; read = n.1; is = cc }
 
-empty_laying : IsLaying empty_struct
+pub empty_laying : IsLaying empty_struct
 empty_laying = record { end = omega arith; least = omega arith; greatest = omega arith; other = omega arith; unions = omega arith; fields = omega arith }
 
 pub struct_laying : (types : Types) (extents : List Extent) (number : ℕ) (s : StructItem) (laid : Laid) → AreExtents extents → (h : HasLaying types extents number s laid) → IsLaying h.laying

@@ -23,7 +23,7 @@ unless_none : {A : Type 0} (o : Option TypeRefusal) (r : Result A TypeRefusal) (
 unless_none None r a h = refl
 unless_none (Some e) r a h = absurd cc
 
-number_found : (m : ℕ) (o : Option ℕ) → is_number m o ≡ true → o ≡ Some m
+pub number_found : (m : ℕ) (o : Option ℕ) → is_number m o ≡ true → o ≡ Some m
 number_found m None h = absurd cc
 number_found m (Some k) h = ap (λ (n : ℕ). Some n) (eqb-true k m h)
 

@@ -93,7 +93,7 @@ layouts_of u t h =
     subst (λ (x : Table). HasLayouts u x) all.is has
 
 -- an element of a list that was made one by one
-mapped : {X Y : Type 0} (f : X → Y) (ys : List Y) (xs : List X) (k : ℕ) (x : X) → ys ≡ map f xs → slice_get xs k ≡ Some x → slice_get ys k ≡ Some (f x)
+pub mapped : {X Y : Type 0} (f : X → Y) (ys : List Y) (xs : List X) (k : ℕ) (x : X) → ys ≡ map f xs → slice_get xs k ≡ Some x → slice_get ys k ≡ Some (f x)
 mapped f ys xs k x e at = ap (λ l. slice_get l k) e ∙ (slice_get-map f xs k ∙ ap (option_map f) at)
 
 -- and back

@@ -4,3 +4,4 @@ pub mod LoadImage
 pub mod Lookups
 pub mod Limits
 pub mod FirstFits
+pub mod MemberLookups

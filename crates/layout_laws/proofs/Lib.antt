@@ -20,3 +20,4 @@ pub mod GlobalNumbers
 pub mod LimitLaws
 pub mod ImageFits
 pub mod MemberNumbers
+pub mod ElementLaws

@@ -5,3 +5,4 @@ pub mod Lookups
 pub mod Limits
 pub mod FirstFits
 pub mod MemberLookups
+pub mod Elements

@@ -1,12 +1,12 @@
 -- What is looked up by a name is what was declared with it, and nothing else has the name.
-use Rattle.std.specs.Prelude.{◌≡◌, ℕ, ◌-◌, ◌^◌, ◌<◌, List, length, Some, slice_get, is_some, Ok}
+use Rattle.std.specs.Prelude.{◌≡◌, ℕ, ◌+◌, ◌-◌, ◌^◌, ◌<◌, List, length, Some, slice_get, is_some, Ok}
 use Rattle.c_tree.specs.declared.items.GlobalItem.{GlobalItem}
 use Rattle.c_tree.specs.declared.items.StructItem.{StructItem}
 use Rattle.c_tree.specs.declared.items.Unit.{Unit as TextUnit}
 use Rattle.deputy_types.specs.declared.table.GlobalPlace.{GlobalPlace}
-use Rattle.deputy_types.specs.Table.{Table, structure, global}
+use Rattle.deputy_types.specs.Table.{Table, structure, global, literal}
 use Rattle.deputy_types.specs.UnitLayout.{layout}
-use Rattle.layout_laws.specs.LoadImage.{global_items}
+use Rattle.layout_laws.specs.LoadImage.{global_items, text_strings}
 use Rattle.layout_laws.specs.StructTable.{struct_items}
 
 -- a declaration with this place among others, and this name
@@ -32,3 +32,11 @@ pub record FindsGlobals (t : Table) (globals : List GlobalItem) : Type 0 where
 -- a unit of less than 2^32 - 1 items: a text, whose bytes are fewer, has no other
 abbrev pub EachGlobalIsFound : Type 0
 EachGlobalIsFound = (u : TextUnit) (t : Table) → length u.items < 2 ^ 32 - 1 → layout u ≡ Ok t → FindsGlobals t (global_items u.items)
+
+-- the k-th string has the block behind those of the globals and of the k strings before it, and there are no other strings
+pub record FindsStrings (t : Table) (globals : List GlobalItem) (strings : List (List ℕ)) : Type 0 where
+  pub found : (k : ℕ) → k < length strings → literal t k ≡ Some (length globals + k)
+  pub only : (k n : ℕ) → literal t k ≡ Some n → (k < length strings) × (n ≡ length globals + k)
+
+abbrev pub EachStringIsFound : Type 0
+EachStringIsFound = (u : TextUnit) (t : Table) → length u.items < 2 ^ 32 - 1 → layout u ≡ Ok t → FindsStrings t (global_items u.items) (text_strings u)

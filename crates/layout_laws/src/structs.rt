@@ -1,4 +1,5 @@
-//! The structs of a table, and zero bytes.
+//! The structs of a table, the types of its elements, and zero bytes.
+ghost use Rattle.layout_laws.specs.Elements.{EachHasElements};
 ghost use Rattle.layout_laws.specs.StructTable.{EachStructIsDeclared, StructsAreNested};
 ghost use Rattle.layout_laws.specs.ZeroBytes.{ZeroIsValid};
 
@@ -16,4 +17,9 @@ pub fn structs_lie_within_one_another()
 /// Zero bytes fit every type of a table, each of its structs included, whatever blocks are granted: each pointer in them is null.
 pub fn zero_is_valid()
     ensures { ZeroIsValid }
+{}
+
+/// A table has a shape for each type of its elements, `char` first, and the bytes that are looked up for an element are those that values of its shape take.
+pub fn each_element_has_the_bytes_of_its_shape()
+    ensures { EachHasElements }
 {}

@@ -21,3 +21,4 @@ pub mod LimitLaws
 pub mod ImageFits
 pub mod MemberNumbers
 pub mod ElementLaws
+pub mod Examples

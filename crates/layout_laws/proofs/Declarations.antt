@@ -1,5 +1,5 @@
 -- The declarations of a text, item by item: what each adds, and that all stay within the limits.
-use Rattle.std.proofs.Common.{◌≡◌, ℕ, ◌+◌, ◌<◌, ◌≤◌, nat_le, nat_lt, Bool, true, false, List, [], ◌∷◌, ◌++◌, length, Some, Result, Ok, Err, refl, sym, ap, subst, arith}
+use Rattle.std.proofs.Common.{◌≡◌, ℕ, ◌+◌, ◌<◌, nat_le, nat_lt, false, List, [], ◌∷◌, ◌++◌, length, Some, Ok, subst}
 use Rattle.std.proofs.lemmas.Bool.{leb-false}
 use Rattle.c_tree.specs.declared.items.GlobalItem.{GlobalItem}
 use Rattle.c_tree.specs.declared.items.Item.{Item}
@@ -7,11 +7,10 @@ use Rattle.c_tree.specs.declared.items.Item.TheVariants as item
 use Rattle.c_tree.specs.declared.items.StructItem.{StructItem}
 use Rattle.c_tree.specs.declared.limits.LimitKind.TheVariants as limit
 use Rattle.deputy_types.specs.declared.global.GlobalShape.{GlobalShape}
-use Rattle.deputy_types.specs.declared.refusal.TypeRefusal.{TypeRefusal}
 use Rattle.deputy_types.specs.declared.refusal.TypeRefusal.TheVariants as refusal
 use Rattle.deputy_types.specs.declared.types.Types.{Types}
 use Rattle.deputy_types.specs.StructLayout.{or_no_decl, struct_laid}
-use Rattle.deputy_types.specs.UnitLayout.{IsDeclared, nothing_declared, global_declared, with_global_shape, with_global, with_struct, with_taken, with_body, with_function, strings_behind, with_item, with_items}
+use Rattle.deputy_types.specs.UnitLayout.{IsDeclared, global_declared, with_global_shape, with_global, with_struct, with_taken, with_body, with_function, strings_behind, with_item, with_items}
 use Rattle.deputy_types.proofs.DeclaredFacts.{laid_number, struct_within, global_within, body_within}
 use Rattle.deputy_types.proofs.Inversions.{ok_then, ok_declared}
 use Rattle.layout_laws.proofs.Outcomes.{Laid, Declared}

@@ -1,13 +1,12 @@
 -- The elements of a table, and its strings, by number.
-use Rattle.std.proofs.Common.{◌≡◌, ℕ, ◌+◌, ◌<◌, Bool, true, false, List, [], ◌∷◌, length, Option, Some, None, option_map, slice_get, nat_lt, if◌then◌else◌, Ok, refl, sym, ◌∙◌, ap, subst, arith}
+use Rattle.std.proofs.Common.{◌≡◌, ℕ, ◌+◌, ◌<◌, List, length, Option, Some, None, option_map, slice_get, nat_lt, sym, ◌∙◌, ap, arith}
 use Rattle.std.proofs.lemmas.Bool.{ltb-true, lt-ltb, cond-true}
 use Rattle.std.proofs.lemmas.List.{length-map}
-use Rattle.c_tree.specs.declared.items.Unit.{Unit as TextUnit}
 use Rattle.checked_tree.specs.declared.shapes.Shape.{Shape}
 use Rattle.deputy_types.specs.declared.element.Element.{Element}
 use Rattle.deputy_types.specs.Extents.{key_extent}
 use Rattle.deputy_types.specs.Fitting.{shape_size}
-use Rattle.deputy_types.specs.Table.{Table, elem_size, size_of_elem, literal}
+use Rattle.deputy_types.specs.Table.{elem_size, literal}
 use Rattle.deputy_types.specs.UnitLayout.{elem_shape}
 use Rattle.layout_laws.specs.Elements.{EachHasElements}
 use Rattle.layout_laws.specs.Lookups.{EachStringIsFound}

@@ -1,5 +1,5 @@
 -- The types of a table's elements by number: their shapes, and their bytes.
-use Rattle.std.proofs.Common.{◌≡◌, ℕ, ◌+◌, Bool, true, false, List, [], ◌∷◌, length, map, Option, Some, None, option_map, unwrap_or, slice_get, position, Ok, refl, sym, ◌∙◌, ap, subst, arith}
+use Rattle.std.proofs.Common.{◌≡◌, ℕ, ◌+◌, true, List, [], ◌∷◌, Option, Some, None, option_map, unwrap_or, slice_get, refl, sym, ◌∙◌, ap, subst}
 use Rattle.std.proofs.lemmas.Bool.{eqb-true, and_parts}
 use Rattle.std.proofs.lemmas.Bool.Decides.{Decides-int_eq}
 use Rattle.std.proofs.lemmas.List.Quantifiers.{position-Some}
@@ -17,7 +17,6 @@ use Rattle.deputy_types.specs.declared.extent.Extent.{Extent}
 use Rattle.deputy_types.specs.Extents.{no_extent, scalar_extent, struct_extent, key_extent}
 use Rattle.deputy_types.specs.Fitting.{shape_size, elem_bytes}
 use Rattle.deputy_types.specs.Found.{first_found, struct_names}
-use Rattle.deputy_types.specs.StructLayout.{struct_laid}
 use Rattle.deputy_types.specs.Table.{Table}
 use Rattle.deputy_types.specs.Types.{same_scalar, same_element, element_number}
 use Rattle.deputy_types.specs.UnitLayout.{elem_shape}

@@ -1,6 +1,6 @@
 -- A text whose structs stand, with the table that is made of it: a pointer that counts elements of a later struct, and a union, laid out as `gcc -m32` lays them
 -- out. The blocks of globals with and without a value. And what the definitions of the laws say of it, and do not say of what is wrong.
-use Rattle.std.proofs.Common.{◌≡◌, ℕ, ◌+◌, ◌≤◌, true, false, List, [], ◌∷◌, length, replicate, ℤ, pos, Option, Some, None, Ok, IsOkAnd, refl, arith}
+use Rattle.std.proofs.Common.{◌≡◌, ℕ, ◌+◌, ◌≤◌, true, false, List, [], ◌∷◌, replicate, pos, Some, None, Ok, IsOkAnd, refl, arith}
 use Rattle.c_tree.specs.declared.items.Arm.{Arm}
 use Rattle.c_tree.specs.declared.items.Const.TheVariants as const
 use Rattle.c_tree.specs.declared.items.Field.{Field}
@@ -28,7 +28,7 @@ use Rattle.deputy_types.specs.declared.global.GlobalShape.{GlobalShape}
 use Rattle.deputy_types.specs.Declarations.{with_number, with_term, integer_number, pointer_number, edge_term, bound_end, both_ends, annotated_bounds, pointer_shape, typed_shape, declared_role}
 use Rattle.deputy_types.specs.Extents.{type_extent}
 use Rattle.deputy_types.specs.Fitting.{place_value}
-use Rattle.deputy_types.specs.Found.{with_name, with_element, with_types, with_whole_type, with_field, found_item}
+use Rattle.deputy_types.specs.Found.{with_name, with_element, with_types, with_field, found_item}
 use Rattle.deputy_types.specs.Siblings.{is_new_member, with_member, with_sibling}
 use Rattle.deputy_types.specs.StructLayout.{struct_siblings, is_first, element_count, field_shape, within_limits, placed, is_new_field, field_declared, with_plain, tag_number, is_own_tag, tag_holds, arm_tag, arm_shape, with_arm, is_new_union, with_union_of, with_union_arms, with_union_at, with_union, laid_out, head_of_struct, struct_laid}
 use Rattle.deputy_types.specs.Table.{Table}

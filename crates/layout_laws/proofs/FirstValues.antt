@@ -1,5 +1,5 @@
 -- What a global's block holds at first: its number, converted to its type, or zeros.
-use Rattle.std.proofs.Common.{◌≡◌, ◌⊎◌, inl, inr, ℕ, zero, suc, ◌+◌, ◌-◌, ◌*◌, ◌/◌, ◌%◌, ◌^◌, ◌<◌, ◌≤◌, Bool, true, false, List, [], ◌∷◌, length, take, replicate, get_or, ℤ, pos, negsuc, Option, Some, None, slice_index_or, if◌then◌else◌, refl, sym, ◌∙◌, ap, subst, arith}
+use Rattle.std.proofs.Common.{◌≡◌, ◌⊎◌, inl, inr, ℕ, zero, suc, ◌+◌, ◌*◌, ◌/◌, ◌%◌, ◌^◌, ◌≤◌, Bool, true, false, List, [], ◌∷◌, length, ℤ, pos, negsuc, Option, Some, None, if◌then◌else◌, refl, sym, ◌∙◌, ap, subst, arith}
 use Rattle.std.specs.Ordering.{int_eq}
 use Rattle.std.proofs.lemmas.Bool.Decides.{Decides-int_eq}
 use Rattle.std.proofs.lemmas.List.{length-replicate, get_or-replicate, take_all}
@@ -22,7 +22,6 @@ use Rattle.deputy_types.specs.declared.element.Element.TheVariants as element
 use Rattle.deputy_types.specs.declared.global.GlobalShape.{GlobalShape}
 use Rattle.deputy_types.specs.declared.types.Types.{Types}
 use Rattle.deputy_types.specs.Fitting.{place_value, AreZero}
-use Rattle.deputy_types.specs.Options.{and_then}
 use Rattle.deputy_types.specs.StructLayout.{const_value, element_count}
 use Rattle.deputy_types.specs.Types.{struct_number, base_key, star_key, stars_key, pointer_key, annotated_key, element_number, constant_sum, is_char, type_key}
 use Rattle.deputy_types.specs.UnitLayout.{first_value, first_bytes}

@@ -17,13 +17,13 @@ use Rattle.c_tree.specs.declared.statements.Action.{Action}
 use Rattle.c_tree.specs.declared.statements.Action.TheVariants as action
 use Rattle.c_tree.specs.declared.statements.Body.{Body, roll-Body, map-Body}
 use Rattle.c_tree.specs.declared.statements.Body.TheOpen.{Body-F, Stmt-F}
-use Rattle.c_tree.specs.declared.statements.Body.TheFolds.{fold-roll-Body, fold-roll-Stmt, ind-Body, ind-Stmt}
+use Rattle.c_tree.specs.declared.statements.Body.TheFolds.{fold-roll-Body, fold-roll-Stmt, ind-Stmt}
 use Rattle.c_tree.specs.declared.statements.Stmt.{Stmt, roll-Stmt, map-Stmt}
 use Rattle.c_tree.specs.declared.types.Star.{Star}
 use Rattle.c_tree.specs.declared.types.TypeName.{TypeName}
 use Rattle.deputy_types.specs.declared.element.Element.{Element}
 use Rattle.deputy_types.specs.declared.found.Found.{Found}
-use Rattle.deputy_types.specs.Found.{with_element, with_stars, with_types, with_whole_stars, with_whole_type, found_type, found_whole, found_string, found_form, found_expr, found_exprs, found_value, found_action, in_turn, where_there, found_body_form, found_stmt_form, found_body, found_stmt, found_stmts, with_params, with_locals, result_key, with_head, with_arms, with_field, with_fields, ended, found_elements, found_function, found_item, found_items}
+use Rattle.deputy_types.specs.Found.{with_element, with_stars, with_types, with_whole_stars, with_whole_type, found_type, found_whole, found_string, found_form, found_expr, found_exprs, found_value, found_action, in_turn, where_there, found_body_form, found_stmt_form, found_body, found_stmt, found_stmts, with_params, with_locals, result_key, with_head, with_arms, with_field, with_fields, found_elements, found_function, found_item, found_items}
 use Rattle.deputy_types.specs.Types.{base_key, star_key, same_element}
 use Rattle.layout_laws.proofs.Lists.{Extends, extends_itself, extends_push, extends_twice}
 
@@ -230,6 +230,7 @@ stmt_grows structs = ind-Stmt (BodyGrows structs) (StmtGrows structs)
   where
     by_body : (x : Body-F (GrowingBody structs) (GrowingStmt structs)) → BodyGrows structs (roll-Body (map-Body (GrowingBody structs) (GrowingStmt structs) Body Stmt (λ k. k.0) (λ k. k.0) x))
     by_body x = subst (λ (p : Found → Found). IsGrowing p) (sym (body_at structs (map-Body (GrowingBody structs) (GrowingStmt structs) Body Stmt (λ k. k.0) (λ k. k.0) x))) (body_form_grows structs x)
+
     by_stmt : (x : Stmt-F (GrowingBody structs) (GrowingStmt structs)) → StmtGrows structs (roll-Stmt (map-Stmt (GrowingBody structs) (GrowingStmt structs) Body Stmt (λ k. k.0) (λ k. k.0) x))
     by_stmt x = subst (λ (p : Found → Found). IsGrowing p) (sym (stmt_at structs (map-Stmt (GrowingBody structs) (GrowingStmt structs) Body Stmt (λ k. k.0) (λ k. k.0) x))) (stmt_form_grows structs x)
 

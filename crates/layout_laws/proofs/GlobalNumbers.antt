@@ -1,6 +1,6 @@
 -- The block of a global's name is its place among the globals of its text.
-use Rattle.std.proofs.Common.{◌≡◌, inl, inr, ℕ, suc, ◌+◌, ◌-◌, ◌^◌, ◌<◌, ◌≤◌, Bool, true, false, not, ◌||◌, cond, List, [], ◌∷◌, ◌++◌, length, map, get_or, Option, Some, None, option_map, slice_get, position, is_some, bytes_eq, nat_lt, if◌then◌else◌, Ok, refl, sym, ◌∙◌, ap, subst, append_assoc, true≢false, arith}
-use Rattle.std.specs.List.{list_any, AllZip}
+use Rattle.std.proofs.Common.{◌≡◌, inl, inr, ℕ, suc, ◌+◌, ◌-◌, ◌^◌, ◌<◌, ◌≤◌, Bool, true, false, not, ◌||◌, cond, List, [], ◌∷◌, ◌++◌, length, map, Option, Some, None, option_map, slice_get, position, is_some, bytes_eq, if◌then◌else◌, Ok, refl, sym, ◌∙◌, ap, subst, append_assoc, true≢false, arith}
+use Rattle.std.specs.List.{list_any}
 use Rattle.std.proofs.lemmas.Bool.{or_parts, or_left, or_right, or_cases, false_from_ne_true}
 use Rattle.std.proofs.lemmas.List.{append-nil, length-map, length_push}
 use Rattle.std.proofs.lemmas.List.Folds.{list_any-append}
@@ -8,7 +8,6 @@ use Rattle.std.proofs.lemmas.Option.{slice_get-map}
 use Rattle.c_tree.specs.declared.items.GlobalItem.{GlobalItem}
 use Rattle.c_tree.specs.declared.items.Item.{Item}
 use Rattle.c_tree.specs.declared.items.Item.TheVariants as item
-use Rattle.c_tree.specs.declared.items.Unit.{Unit as TextUnit}
 use Rattle.deputy_types.specs.declared.global.GlobalShape.{GlobalShape}
 use Rattle.deputy_types.specs.declared.table.GlobalPlace.{GlobalPlace}
 use Rattle.deputy_types.specs.declared.types.Types.{Types}
@@ -17,15 +16,15 @@ use Rattle.deputy_types.specs.KernelCalls.{kernel_named}
 use Rattle.deputy_types.specs.Options.{and_then}
 use Rattle.deputy_types.specs.Table.{Table, global}
 use Rattle.deputy_types.specs.Types.{type_key}
-use Rattle.deputy_types.specs.UnitLayout.{IsDeclared, nothing_declared, is_new_global, if_declared, global_of, global_declared, with_global_shape, with_body, with_taken, strings_behind, with_item, with_items, table_of, layout}
+use Rattle.deputy_types.specs.UnitLayout.{IsDeclared, nothing_declared, is_new_global, if_declared, global_of, global_declared, with_global_shape, with_taken, strings_behind, with_item, with_items, table_of}
 use Rattle.deputy_types.proofs.Inversions.{some_then, some_map, ok_then}
 use Rattle.layout_laws.specs.LoadImage.{global_items}
-use Rattle.layout_laws.specs.Lookups.{IsDeclaredAt, FindsGlobals, EachGlobalIsFound}
+use Rattle.layout_laws.specs.Lookups.{EachGlobalIsFound}
 use Rattle.layout_laws.proofs.Declarations.{adds_struct, adds_global, adds_body, item_within}
 use Rattle.layout_laws.proofs.GlobalsDeclared.{IsGlobalOf, globals_added}
 use Rattle.layout_laws.proofs.Lists.{zip_at}
 use Rattle.layout_laws.proofs.Outcomes.{Declared}
-use Rattle.layout_laws.proofs.Places.{AreFresh, fresh_at, named_at, element_at, with_name_new, with_name_length, its_own}
+use Rattle.layout_laws.proofs.Places.{AreFresh, fresh_at, named_at, element_at, with_name_new, with_name_length}
 use Rattle.layout_laws.proofs.Steps.{types_in, found_in, steps}
 use Rattle.layout_laws.proofs.StructsDeclared.{nothing_is_declared}
 
@@ -47,11 +46,13 @@ among_more : (names taken : List (List ℕ)) (x : List ℕ) → AreAmong names t
 among_more names taken x h = record { each = λ name e. kept_name (bytes_eq name) taken x (h.each name e) }
 
 among_both : (names taken : List (List ℕ)) (x : List ℕ) → AreAmong names taken → AreAmong (names ++ x ∷ []) (taken ++ x ∷ [])
-among_both names taken x h = record { each = λ name e.
-    elim (or_cases (list_any (bytes_eq name) names) (list_any (bytes_eq name) (x ∷ [])) (sym (list_any-append (bytes_eq name) names (x ∷ [])) ∙ e)) [
-      inl k ↦ list_any-append (bytes_eq name) taken (x ∷ []) ∙ or_left (list_any (bytes_eq name) taken) (list_any (bytes_eq name) (x ∷ [])) (h.each name k)
-    | inr k ↦ list_any-append (bytes_eq name) taken (x ∷ []) ∙ or_right (list_any (bytes_eq name) taken) (list_any (bytes_eq name) (x ∷ [])) k
-    ] }
+among_both names taken x h = record {
+  each = λ name e.
+      elim (or_cases (list_any (bytes_eq name) names) (list_any (bytes_eq name) (x ∷ [])) (sym (list_any-append (bytes_eq name) names (x ∷ [])) ∙ e)) [
+        | inl k ↦ list_any-append (bytes_eq name) taken (x ∷ []) ∙ or_left (list_any (bytes_eq name) taken) (list_any (bytes_eq name) (x ∷ [])) (h.each name k)
+        | inr k ↦ list_any-append (bytes_eq name) taken (x ∷ []) ∙ or_right (list_any (bytes_eq name) taken) (list_any (bytes_eq name) (x ∷ [])) k
+      ];
+}
 
 -- ---- a global's name is new
 pub if_true : {A : Type 0} (b : Bool) (o : Option A) (a : A) → (if b then o else None) ≡ Some a → b ≡ true
@@ -170,11 +171,11 @@ globals_found u t room h =
     let arrays : t.arrays ≡ map (λ (x : GlobalShape). x.array) shapes.new = ap (λ (x : Table). x.arrays) (sym all.is) ∙ ap (λ (l : List GlobalShape). map (λ (x : GlobalShape). x.array) l) shapes.is in
     let many : length t.globals ≡ length globals = ap (λ (l : List (List ℕ)). length l) names ∙ length-map globals (λ (g : GlobalItem). g.declaration.name) in
     let place : (k : ℕ) (g : GlobalItem) → slice_get globals k ≡ Some g → position (bytes_eq g.declaration.name) t.globals ≡ Some k = λ k g at.
-        let listed : slice_get (names_of globals) k ≡ Some g.declaration.name =
-        slice_get-map (λ (x : GlobalItem). x.declaration.name) globals k ∙ ap (option_map (λ (x : GlobalItem). x.declaration.name)) at in
-        let zeroth : length {0} {A = List ℕ} [] + k ≡ k = omega arith in
-        ap (λ (l : List (List ℕ)). position (bytes_eq g.declaration.name) l) names
-        ∙ (fresh_at [] (names_of globals) k g.declaration.name added.fresh listed ∙ ap (λ (n : ℕ). Some n) zeroth) in
+    let listed : slice_get (names_of globals) k ≡ Some g.declaration.name =
+    slice_get-map (λ (x : GlobalItem). x.declaration.name) globals k ∙ ap (option_map (λ (x : GlobalItem). x.declaration.name)) at in
+    let zeroth : length {0} {A = List ℕ} [] + k ≡ k = omega arith in
+    ap (λ (l : List (List ℕ)). position (bytes_eq g.declaration.name) l) names
+    ∙ (fresh_at [] (names_of globals) k g.declaration.name added.fresh listed ∙ ap (λ (n : ℕ). Some n) zeroth) in
     record {
       names = many;
       found = λ k g at.

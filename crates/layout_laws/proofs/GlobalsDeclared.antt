@@ -1,5 +1,5 @@
 -- The globals of a text, one by one: what was declared of each.
-use Rattle.std.proofs.Common.{◌≡◌, ℕ, ◌+◌, ◌<◌, nat_lt, Bool, true, false, List, [], ◌∷◌, ◌++◌, length, Option, Some, None, option_map, unwrap_or, slice_get, is_some, Ok, if◌then◌else◌, refl, sym, ◌∙◌, ap, subst, append_assoc, arith}
+use Rattle.std.proofs.Common.{◌≡◌, ℕ, ◌<◌, nat_lt, Bool, true, false, List, [], ◌∷◌, ◌++◌, length, Option, Some, None, is_some, Ok, if◌then◌else◌, refl, sym, ◌∙◌, ap, subst, append_assoc}
 use Rattle.std.specs.List.{AllZip}
 use Rattle.std.proofs.lemmas.Bool.{ltb-true}
 use Rattle.std.proofs.lemmas.List.{append-nil, get_or_append_left}
@@ -16,7 +16,7 @@ use Rattle.deputy_types.specs.Extents.{no_extent, struct_extent, key_extent}
 use Rattle.deputy_types.specs.Options.{and_then}
 use Rattle.deputy_types.specs.StructLayout.{element_count}
 use Rattle.deputy_types.specs.Types.{element_number, type_key}
-use Rattle.deputy_types.specs.UnitLayout.{is_new_global, first_value, if_declared, global_of, global_declared, with_global_shape, with_body, with_taken, strings_behind, with_item, with_items}
+use Rattle.deputy_types.specs.UnitLayout.{is_new_global, first_value, if_declared, global_of, global_declared, with_global_shape, with_taken, strings_behind, with_item, with_items}
 use Rattle.deputy_types.proofs.Inversions.{some_then, some_map, if_some, ok_then}
 use Rattle.layout_laws.specs.LoadImage.{global_items}
 use Rattle.layout_laws.proofs.Declarations.{adds_struct, adds_global, adds_body}

@@ -1,11 +1,10 @@
 -- Each block of a load image fits its type: a global without a value is zeros, and the others are integers.
-use Rattle.std.proofs.Common.{◌≡◌, inl, inr, ℕ, ◌+◌, ◌-◌, ◌*◌, ◌<◌, ◌≤◌, Bool, List, [], ◌∷◌, length, ℤ, Option, Some, None, option_map, unwrap_or, slice_get, slice_index_or, refl, sym, ◌∙◌, ap, subst, arith}
+use Rattle.std.proofs.Common.{◌≡◌, inl, inr, ℕ, ◌+◌, ◌-◌, ◌*◌, ◌<◌, ◌≤◌, List, length, Option, Some, None, option_map, unwrap_or, slice_get, slice_index_or, sym, ◌∙◌, ap, subst, arith}
 use Rattle.std.proofs.lemmas.Bool.{cases_lt}
 use Rattle.std.proofs.lemmas.Option.{slice_get_within}
 use Rattle.sd_base.specs.Blocks.{Block}
 use Rattle.c_tree.specs.declared.items.Const.{Const}
 use Rattle.c_tree.specs.declared.items.GlobalItem.{GlobalItem}
-use Rattle.c_tree.specs.declared.items.Unit.{Unit as TextUnit}
 use Rattle.checked_tree.specs.declared.shapes.Scalar.{Scalar}
 use Rattle.checked_tree.specs.declared.shapes.Scalar.TheVariants as scalar
 use Rattle.checked_tree.specs.declared.shapes.Shape.{Shape}
@@ -94,6 +93,6 @@ pub image_fits : EachBlockFitsAtFirst
 image_fits u t n b h at =
     let image = has_image u t h in
     elim (cases_lt n (length (global_items u.items))) [
-      inl l ↦ global_block_fits t (global_items u.items) (text_strings u) n b image (structs_nested u t h) at l
-    | inr l ↦ string_block_fits t (global_items u.items) (text_strings u) n b image at l
+      | inl l ↦ global_block_fits t (global_items u.items) (text_strings u) n b image (structs_nested u t h) at l
+      | inr l ↦ string_block_fits t (global_items u.items) (text_strings u) n b image at l
     ]

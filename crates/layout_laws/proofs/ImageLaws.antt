@@ -1,24 +1,21 @@
 -- The load image of a table: a block for each global and each string of its text.
-use Rattle.std.proofs.Common.{◌≡◌, ℕ, ◌+◌, ◌*◌, ◌≤◌, true, false, List, [], ◌∷◌, ◌++◌, length, map, All, Option, Some, None, slice_get, Ok, refl, sym, ◌∙◌, ap, subst, arith}
+use Rattle.std.proofs.Common.{◌≡◌, ℕ, ◌+◌, ◌*◌, List, [], ◌∷◌, ◌++◌, length, All, Option, Some, None, slice_get, refl, sym, ◌∙◌, ap, subst, arith}
 use Rattle.std.specs.List.{AllZip}
 use Rattle.std.proofs.lemmas.List.{length-append}
 use Rattle.c_tree.specs.declared.items.Const.{Const}
 use Rattle.c_tree.specs.declared.items.GlobalItem.{GlobalItem}
 use Rattle.c_tree.specs.declared.items.Unit.{Unit as TextUnit}
-use Rattle.checked_tree.specs.declared.shapes.Scalar.{Scalar}
-use Rattle.checked_tree.specs.declared.shapes.Shape.{Shape}
-use Rattle.checked_tree.specs.declared.shapes.Shape.TheVariants as shape
 use Rattle.checked_tree.specs.declared.units.ImageBlock.{ImageBlock}
 use Rattle.deputy_types.specs.declared.element.Element.{Element}
 use Rattle.deputy_types.specs.declared.element.Element.TheVariants as element
 use Rattle.deputy_types.specs.declared.global.GlobalShape.{GlobalShape}
 use Rattle.deputy_types.specs.declared.types.Types.{Types}
-use Rattle.deputy_types.specs.Extents.{key_extent, scalar_extent}
+use Rattle.deputy_types.specs.Extents.{key_extent}
 use Rattle.deputy_types.specs.Fitting.{elem_bytes}
 use Rattle.deputy_types.specs.Options.{and_then}
 use Rattle.deputy_types.specs.Table.{Table, elem}
 use Rattle.deputy_types.specs.Types.{element_number, type_key}
-use Rattle.deputy_types.specs.UnitLayout.{nothing_declared, global_block, string_block, elem_shape, table_of, layout}
+use Rattle.deputy_types.specs.UnitLayout.{nothing_declared, global_block, string_block, elem_shape, table_of}
 use Rattle.layout_laws.specs.LoadImage.{global_items, text_strings, AreInTurn, IsBlockOfGlobal, IsBlockOfString, HoldsFirst, EachHasImage}
 use Rattle.layout_laws.proofs.Blocks.{EndsWithin, IsGlobalBlock, IsStringBlock, blocks_of, turn_apart, turn_within}
 use Rattle.layout_laws.proofs.ElementSizes.{numbered, elem_at, elem_bytes_are, char_first, scalar_same}

@@ -1,5 +1,5 @@
 -- A table keeps the limits.
-use Rattle.std.proofs.Common.{◌≡◌, ℕ, ◌+◌, ◌*◌, ◌<◌, ◌≤◌, max, List, [], ◌∷◌, ◌++◌, length, map, get_or, All, Option, Some, None, slice_get, Ok, refl, sym, ◌∙◌, ap, subst, arith}
+use Rattle.std.proofs.Common.{◌≡◌, ℕ, ◌+◌, ◌*◌, ◌<◌, ◌≤◌, max, List, [], ◌∷◌, ◌++◌, length, get_or, Some, None, slice_get, Ok, refl, sym, ◌∙◌, ap, subst, arith}
 use Rattle.std.proofs.lemmas.Option.{slice_get-get_or}
 use Rattle.c_tree.specs.declared.items.Arm.{Arm}
 use Rattle.c_tree.specs.declared.items.Declaration.{Declaration}
@@ -7,7 +7,6 @@ use Rattle.c_tree.specs.declared.items.Field.{Field}
 use Rattle.c_tree.specs.declared.items.Field.TheVariants as field
 use Rattle.c_tree.specs.declared.items.Item.{Item}
 use Rattle.c_tree.specs.declared.items.Item.TheVariants as item
-use Rattle.c_tree.specs.declared.items.StructItem.{StructItem}
 use Rattle.c_tree.specs.declared.items.Unit.{Unit as TextUnit}
 use Rattle.checked_tree.specs.declared.shapes.Shape.{Shape}
 use Rattle.checked_tree.specs.declared.shapes.StructShape.{StructShape}
@@ -16,11 +15,11 @@ use Rattle.deputy_types.specs.declared.global.GlobalShape.{GlobalShape}
 use Rattle.deputy_types.specs.declared.refusal.TypeRefusal.TheVariants as refusal
 use Rattle.deputy_types.specs.declared.types.Types.{Types}
 use Rattle.deputy_types.specs.Extents.{no_extent, type_extent, round_up_to}
-use Rattle.deputy_types.specs.StructLayout.{Surroundings, or_no_decl, is_new_field, field_declared, within_limits, placed, with_plain, arms_extent, with_arms_in_turn, is_new_union, with_union_of, with_union_arms, with_union_at, with_union, with_any_field, empty_struct, with_fields_in_turn, laid_out, struct_siblings}
+use Rattle.deputy_types.specs.StructLayout.{Surroundings, or_no_decl, field_declared, within_limits, placed, with_plain, arms_extent, with_arms_in_turn, is_new_union, with_union_of, with_union_arms, with_union_at, with_union, with_any_field, empty_struct, with_fields_in_turn, laid_out, struct_siblings}
 use Rattle.deputy_types.specs.Table.{Table}
-use Rattle.deputy_types.specs.UnitLayout.{nothing_declared, with_global_shape, with_body, with_taken, strings_behind, with_item, with_items, table_of, layout}
+use Rattle.deputy_types.specs.UnitLayout.{nothing_declared, with_global_shape, with_taken, strings_behind, with_item, with_items, table_of}
 use Rattle.deputy_types.proofs.Inversions.{ok_then, if_ok}
-use Rattle.layout_laws.specs.Limits.{function_items, IsSmall, IsWithinLimits, EachIsWithinLimits}
+use Rattle.layout_laws.specs.Limits.{function_items, IsSmall, EachIsWithinLimits}
 use Rattle.layout_laws.specs.StructTable.{struct_items}
 use Rattle.layout_laws.proofs.Declarations.{adds_struct, adds_global, adds_body, items_within}
 use Rattle.layout_laws.proofs.GlobalsDeclared.{globals_added}

@@ -1,17 +1,15 @@
 -- The number of a member's name is its place among the members of its struct.
-use Rattle.std.proofs.Common.{◌≡◌, ℕ, zero, suc, ◌+◌, ◌-◌, ◌*◌, ◌^◌, ◌<◌, ◌≤◌, max, min, Bool, true, false, not, ◌&&◌, ◌||◌, cond, List, [], ◌∷◌, ◌++◌, length, get_or, ℤ, Option, Some, None, option_map, unwrap_or, slice_get, position, is_some, bytes_eq, nat_lt, if◌then◌else◌, Result, Ok, Err, refl, sym, ◌∙◌, ap, subst, append_assoc, arith}
+use Rattle.std.proofs.Common.{◌≡◌, ℕ, zero, suc, ◌+◌, ◌-◌, ◌*◌, ◌^◌, ◌<◌, ◌≤◌, max, Bool, true, false, not, ◌||◌, cond, List, [], ◌∷◌, ◌++◌, length, get_or, ℤ, Option, Some, None, option_map, unwrap_or, slice_get, position, bytes_eq, nat_lt, if◌then◌else◌, Result, Ok, Err, refl, sym, ◌∙◌, ap, subst, append_assoc, arith}
 use Rattle.std.specs.List.{list_any}
 use Rattle.std.proofs.lemmas.Bool.{and_parts, or_parts, eqb-true, ltb-true}
 use Rattle.std.proofs.lemmas.List.{append-nil, length_push, length-append}
 use Rattle.std.proofs.lemmas.List.Quantifiers.{position-Some}
-use Rattle.std.proofs.lemmas.Option.{slice_get-get_or, slice_get_within}
+use Rattle.std.proofs.lemmas.Option.{slice_get-get_or}
 use Rattle.std.proofs.lemmas.Slice.Eq.{bytes_eq-Decides}
 use Rattle.c_tree.specs.declared.items.Arm.{Arm}
 use Rattle.c_tree.specs.declared.items.Declaration.{Declaration}
 use Rattle.c_tree.specs.declared.items.Field.{Field}
 use Rattle.c_tree.specs.declared.items.Field.TheVariants as field_form
-use Rattle.c_tree.specs.declared.items.StructItem.{StructItem}
-use Rattle.c_tree.specs.declared.items.Unit.{Unit as TextUnit}
 use Rattle.checked_tree.specs.declared.shapes.Member.{Member}
 use Rattle.checked_tree.specs.declared.shapes.Shape.{Shape}
 use Rattle.checked_tree.specs.declared.shapes.StructShape.{StructShape}
@@ -29,11 +27,10 @@ use Rattle.deputy_types.specs.Extents.{AreExtents, no_extent, type_extent, round
 use Rattle.deputy_types.specs.Found.{with_name}
 use Rattle.deputy_types.specs.Options.{and_then}
 use Rattle.deputy_types.specs.Siblings.{same_part, is_member, member_number, is_new_member, with_member, with_sibling, no_siblings}
-use Rattle.deputy_types.specs.StructLayout.{Surroundings, IsLaying, is_number, is_first, is_before, or_no_decl, is_new_field, field_shape, element_count, counted, field_declared, within_limits, placed, with_plain, const_value, arms_extent, arm_tag, arm_shape, with_arm_of, with_tagged_arm, with_arm, with_next_arm, with_arms_in_turn, is_new_union, with_union_of, with_union_arms, with_union_at, with_union, with_any_field, empty_struct, with_fields_in_turn, tags_of, next_part, with_field_sibling, with_arm_siblings, field_siblings, struct_siblings, laid_out}
+use Rattle.deputy_types.specs.StructLayout.{Surroundings, IsLaying, is_first, is_before, or_no_decl, is_new_field, field_shape, element_count, counted, field_declared, within_limits, placed, with_plain, const_value, arms_extent, arm_tag, arm_shape, with_arm_of, with_tagged_arm, with_arm, with_next_arm, with_arms_in_turn, is_new_union, with_union_of, with_union_arms, with_union_at, with_union, with_any_field, empty_struct, with_fields_in_turn, tags_of, next_part, with_field_sibling, with_arm_siblings, field_siblings, struct_siblings, laid_out}
 use Rattle.deputy_types.specs.Table.{Table, field, arm, union_of, members_of}
-use Rattle.deputy_types.specs.UnitLayout.{layout}
 use Rattle.deputy_types.proofs.Inversions.{some_then, some_map, ok_then, ok_declared, if_some}
-use Rattle.layout_laws.specs.MemberLookups.{arm_names, member_names, union_names, look_up, FindsMembers, EachMemberIsFound}
+use Rattle.layout_laws.specs.MemberLookups.{arm_names, member_names, union_names, look_up, EachMemberIsFound}
 use Rattle.layout_laws.specs.StructTable.{struct_items}
 use Rattle.layout_laws.proofs.GlobalNumbers.{if_true, not_true}
 use Rattle.layout_laws.proofs.Outcomes.{Arms, Laid, Laying}
@@ -356,10 +353,10 @@ members_found u t s d h at =
     ap (λ (o : Option StructShape). length (unwrap_or (option_map (λ (x : StructShape). x.members) o) [])) shape
     ∙ (ap (λ (l : List Member). length l) members_are ∙ sum_of (length read.laying.members) (length declared) adds.long) in
     let found_here : (part : Option ℕ) (name : List ℕ) → look_up t s part name ≡ member_number siblings.names part name = λ part name.
-        look_up_is t s part name
-        ∙ (ap (λ (o : Option StructNames). and_then o (λ n. member_number n.members part name)) names ∙ ap (λ (l : List MemberName). member_number l part name) names_are) in
+    look_up_is t s part name
+    ∙ (ap (λ (o : Option StructNames). and_then o (λ n. member_number n.members part name)) names ∙ ap (λ (l : List MemberName). member_number l part name) names_are) in
     let union_here : (name : List ℕ) → union_of t s name ≡ position (bytes_eq name) (union_names d.fields) = λ name.
-        ap (λ (o : Option StructNames). and_then o (λ n. position (bytes_eq name) n.unions)) names ∙ ap (λ (l : List (List ℕ)). position (bytes_eq name) l) unions_are in
+    ap (λ (o : Option StructNames). and_then o (λ n. position (bytes_eq name) n.unions)) names ∙ ap (λ (l : List (List ℕ)). position (bytes_eq name) l) unions_are in
     let fits : length declared ≤ length siblings.names = no_more siblings.names declared adds.numbered in
     let few = short.few in
     let long = short.long in
@@ -388,5 +385,6 @@ members_found u t s d h at =
   where
     sum_of : (a b : ℕ) → a ≡ 0 + b → a ≡ b
     sum_of a b e = omega arith
+
     below_by : (k n m : ℕ) → k < n → n ≤ 0 + m → k < m
     below_by k n m l e = omega arith

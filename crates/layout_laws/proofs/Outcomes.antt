@@ -1,5 +1,5 @@
 -- The types of what is made on the way to a table. deputy_types names them for itself alone; here each is the type of what it stands in.
-use Rattle.std.proofs.Common.{List, Result}
+use Rattle.std.proofs.Common.{Result}
 use Rattle.deputy_types.specs.declared.refusal.TypeRefusal.{TypeRefusal}
 use Rattle.deputy_types.specs.StructLayout.{empty_struct, with_arms_in_turn, struct_laid}
 use Rattle.deputy_types.specs.UnitLayout.{nothing_declared, empty_image, no_structs}

@@ -1,6 +1,6 @@
 -- The two passes over a text's structs agree: each is laid out first with the extents of those before it, and again with those of all, and has the same
 -- extent both times.
-use Rattle.std.proofs.Common.{◌≡◌, ℕ, ◌+◌, ◌<◌, List, [], ◌∷◌, ◌++◌, length, map, Ok, slice_get, unwrap_or, refl, sym, ◌∙◌, ap, subst, append_assoc, arith}
+use Rattle.std.proofs.Common.{◌≡◌, ℕ, ◌+◌, ◌<◌, List, [], ◌∷◌, ◌++◌, length, map, Ok, refl, sym, ◌∙◌, ap, subst, append_assoc}
 use Rattle.std.proofs.lemmas.List.{append-nil, get_or_append_left, length_push}
 use Rattle.std.proofs.lemmas.Option.{unwrap_or-slice_get}
 use Rattle.c_tree.specs.declared.items.Item.{Item}
@@ -13,7 +13,7 @@ use Rattle.deputy_types.specs.declared.types.Types.{Types}
 use Rattle.deputy_types.specs.Extents.{no_extent, struct_extent}
 use Rattle.deputy_types.specs.StructLaws.{AgreeBelow}
 use Rattle.deputy_types.specs.StructLayout.{struct_laid}
-use Rattle.deputy_types.specs.UnitLayout.{strings_behind, with_global_shape, with_body, with_taken, with_item, with_items, with_laid, with_next_struct, with_item_struct, structs_of}
+use Rattle.deputy_types.specs.UnitLayout.{strings_behind, with_global_shape, with_taken, with_item, with_items, with_laid, with_next_struct, structs_of}
 use Rattle.deputy_types.proofs.Inversions.{ok_then}
 use Rattle.deputy_types.proofs.SameExtent.{same_extent}
 use Rattle.layout_laws.proofs.Outcomes.{Laid, Declared, Structs}

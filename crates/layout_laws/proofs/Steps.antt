@@ -1,5 +1,5 @@
 -- What stands behind a table: the steps that were taken one after another, none of which was refused.
-use Rattle.std.proofs.Common.{◌≡◌, ℕ, nat_le, nat_lt, Bool, true, false, List, [], Option, Some, None, Result, Ok, Err, if◌then◌else◌, refl}
+use Rattle.std.proofs.Common.{◌≡◌, Bool, true, false, [], Result, Ok, Err, if◌then◌else◌, refl}
 use Rattle.c_tree.specs.declared.items.Unit.{Unit as TextUnit}
 use Rattle.deputy_types.specs.declared.found.Found.{Found}
 use Rattle.deputy_types.specs.declared.refusal.TypeRefusal.{TypeRefusal}

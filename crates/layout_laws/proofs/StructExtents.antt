@@ -1,5 +1,5 @@
 -- A struct that was laid out is within the limits: at most 64 fields, of which at most all are unions, and at most 65,536 bytes; its alignment is 1, 2 or 4.
-use Rattle.std.proofs.Common.{◌≡◌, ◌≢◌, ℕ, ◌+◌, ◌-◌, ◌*◌, ◌/◌, ◌≤◌, ◌<◌, max, nat_le, nat_lt, Bool, true, false, List, [], ◌∷◌, ◌++◌, length, Option, None, Ok, refl, ◌⊎◌, inl, inr, sym, subst, arith}
+use Rattle.std.proofs.Common.{◌≡◌, ℕ, ◌+◌, ◌*◌, ◌≤◌, ◌<◌, max, nat_le, nat_lt, List, [], ◌∷◌, ◌++◌, length, None, Ok, refl, ◌⊎◌, inl, inr, sym, subst, arith}
 use Rattle.std.proofs.lemmas.Bool.{leb-false, ltb-false}
 use Rattle.std.proofs.lemmas.List.{length_push}
 use Rattle.c_tree.specs.declared.items.Arm.{Arm}
@@ -8,14 +8,13 @@ use Rattle.c_tree.specs.declared.items.Field.{Field}
 use Rattle.c_tree.specs.declared.items.Field.TheVariants as field
 use Rattle.c_tree.specs.declared.items.StructItem.{StructItem}
 use Rattle.c_tree.specs.declared.limits.LimitKind.TheVariants as limit
-use Rattle.checked_tree.specs.declared.shapes.Member.{Member}
 use Rattle.checked_tree.specs.declared.shapes.Shape.{Shape}
 use Rattle.deputy_types.specs.declared.extent.Extent.{Extent}
 use Rattle.deputy_types.specs.declared.refusal.TypeRefusal.TheVariants as refusal
 use Rattle.deputy_types.specs.declared.siblings.Siblings.{Siblings}
 use Rattle.deputy_types.specs.declared.types.Types.{Types}
 use Rattle.deputy_types.specs.Extents.{IsExtent, AreExtents, no_extent, type_extent, round_up_to}
-use Rattle.deputy_types.specs.StructLayout.{Surroundings, IsLaying, or_no_decl, is_new_field, field_declared, within_limits, placed, with_plain, arms_extent, with_arms_in_turn, is_new_union, with_union_of, with_union_arms, with_union_at, with_union, with_any_field, empty_struct, with_fields_in_turn, laid_out, head_of_struct, struct_siblings, laid_with, struct_laid}
+use Rattle.deputy_types.specs.StructLayout.{Surroundings, IsLaying, or_no_decl, field_declared, within_limits, placed, with_plain, arms_extent, with_arms_in_turn, is_new_union, with_union_of, with_union_arms, with_union_at, with_union, with_any_field, empty_struct, with_fields_in_turn, laid_out, head_of_struct, struct_siblings, laid_with, struct_laid}
 use Rattle.deputy_types.proofs.Inversions.{ok_then, if_ok, unless_ok}
 use Rattle.layout_laws.proofs.Outcomes.{Arms, Laid, Laying}
 use Rattle.layout_laws.proofs.Steps.{else_ok}

@@ -1,18 +1,17 @@
 -- The number of a struct's name is its place among the structs of its text.
-use Rattle.std.proofs.Common.{◌≡◌, ℕ, ◌+◌, ◌<◌, ◌≤◌, Bool, true, false, List, [], ◌∷◌, length, get_or, Option, Some, None, slice_get, nat_le, if◌then◌else◌, ◌==◌, Result, Ok, Err, refl, sym, ◌∙◌, ap, subst, arith}
+use Rattle.std.proofs.Common.{◌≡◌, ℕ, ◌+◌, ◌≤◌, Bool, true, false, List, [], ◌∷◌, length, Option, Some, None, slice_get, nat_le, if◌then◌else◌, Result, Ok, refl, sym, ◌∙◌, ap, subst, arith}
 use Rattle.std.proofs.lemmas.Bool.{eqb-true}
 use Rattle.c_tree.specs.declared.items.Item.{Item}
 use Rattle.c_tree.specs.declared.items.Item.TheVariants as item
 use Rattle.c_tree.specs.declared.items.StructItem.{StructItem}
-use Rattle.c_tree.specs.declared.items.Unit.{Unit as TextUnit}
 use Rattle.deputy_types.specs.declared.extent.Extent.{Extent}
 use Rattle.deputy_types.specs.declared.refusal.TypeRefusal.{TypeRefusal}
 use Rattle.deputy_types.specs.declared.types.Types.{Types}
 use Rattle.deputy_types.specs.Found.{with_name, struct_names}
 use Rattle.deputy_types.specs.StructLayout.{is_number, head_of_struct, unless, laid_with, struct_siblings, struct_laid}
-use Rattle.deputy_types.specs.Table.{Table, structure}
+use Rattle.deputy_types.specs.Table.{structure}
 use Rattle.deputy_types.specs.Types.{struct_number}
-use Rattle.layout_laws.specs.Lookups.{IsDeclaredAt, FindsStructs, EachStructIsFound}
+use Rattle.layout_laws.specs.Lookups.{EachStructIsFound}
 use Rattle.layout_laws.specs.StructTable.{struct_items}
 use Rattle.layout_laws.proofs.Outcomes.{Laid}
 use Rattle.layout_laws.proofs.Places.{named_at, element_at, with_name_length}
@@ -57,9 +56,9 @@ structs_found u t h =
     let few : length t.types.structs ≤ length (struct_items u.items) =
     subst (λ (l : List (List ℕ)). length l ≤ length (struct_items u.items)) (sym names) (let f = names_few u.items [] in omega (arith, f)) in
     let found : (k : ℕ) (s : StructItem) → slice_get (struct_items u.items) k ≡ Some s → structure t s.name ≡ Some k = λ k s at.
-        let one = laid_at (types_in u) t.extents 0 k (struct_items u.items) all.laid s all.are at in
-        let zeroth : 0 + k ≡ k = omega arith in
-        ap (λ (l : List (List ℕ)). struct_number l s.name) names ∙ (struct_has_number (types_in u) t.extents (0 + k) s one.one one.is ∙ ap (λ (n : ℕ). Some n) zeroth) in
+    let one = laid_at (types_in u) t.extents 0 k (struct_items u.items) all.laid s all.are at in
+    let zeroth : 0 + k ≡ k = omega arith in
+    ap (λ (l : List (List ℕ)). struct_number l s.name) names ∙ (struct_has_number (types_in u) t.extents (0 + k) s one.one one.is ∙ ap (λ (n : ℕ). Some n) zeroth) in
     record {
       found = found;
       only = λ name k is.

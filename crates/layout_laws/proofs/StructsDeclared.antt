@@ -1,5 +1,5 @@
 -- The structs of a table are those that its text declares, and lie within one another.
-use Rattle.std.proofs.Common.{◌≡◌, ℕ, zero, suc, ◌+◌, List, [], ◌∷◌, ◌++◌, length, map, Option, Some, option_map, unwrap_or, slice_get, Result, Ok, IsOkAnd, refl, sym, ◌∙◌, ap, subst, arith}
+use Rattle.std.proofs.Common.{◌≡◌, ℕ, zero, suc, ◌+◌, List, [], ◌∷◌, length, map, Option, Some, option_map, unwrap_or, slice_get, Result, Ok, IsOkAnd, refl, sym, ◌∙◌, ap, subst, arith}
 use Rattle.std.proofs.lemmas.List.{length-map}
 use Rattle.std.proofs.lemmas.Option.{slice_get-map}
 use Rattle.c_tree.specs.declared.items.StructItem.{StructItem}
@@ -9,8 +9,7 @@ use Rattle.deputy_types.specs.declared.extent.Extent.{Extent}
 use Rattle.deputy_types.specs.declared.refusal.TypeRefusal.{TypeRefusal}
 use Rattle.deputy_types.specs.declared.struct_names.StructNames.{StructNames}
 use Rattle.deputy_types.specs.declared.types.Types.{Types}
-use Rattle.deputy_types.specs.Extents.{AreExtents, IsExtent, no_extent, struct_extent}
-use Rattle.deputy_types.specs.Fitting.{AreNested}
+use Rattle.deputy_types.specs.Extents.{AreExtents, no_extent}
 use Rattle.deputy_types.specs.StructLaws.{IsLaidOut, IsStruct}
 use Rattle.deputy_types.specs.StructLayout.{struct_laid}
 use Rattle.deputy_types.specs.Table.{Table}
@@ -18,7 +17,7 @@ use Rattle.deputy_types.specs.UnitLayout.{IsDeclared, nothing_declared, no_struc
 use Rattle.deputy_types.proofs.MembersLie.{laid_out-lies}
 use Rattle.deputy_types.proofs.Nested.{nested}
 use Rattle.layout_laws.proofs.Outcomes.{Laid}
-use Rattle.layout_laws.specs.StructTable.{struct_items, HasStruct, HasStructs, EachStructIsDeclared, StructsAreNested}
+use Rattle.layout_laws.specs.StructTable.{struct_items, HasStruct, EachStructIsDeclared, StructsAreNested}
 use Rattle.layout_laws.proofs.Declarations.{items_within}
 use Rattle.layout_laws.proofs.Passes.{AreLaid, extents_of, shapes_of, names_of, passes}
 use Rattle.layout_laws.proofs.Steps.{types_in, found_in, steps}

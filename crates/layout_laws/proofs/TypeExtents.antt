@@ -1,5 +1,5 @@
 -- The extent of each type is one that numbers, pointers and structs have, where those of the structs are.
-use Rattle.std.proofs.Common.{◌≡◌, ◌≢◌, ℕ, ◌≤◌, max, List, [], ◌∷◌, Option, Some, None, option_map, unwrap_or, arith}
+use Rattle.std.proofs.Common.{◌≢◌, ℕ, ◌≤◌, max, List, [], ◌∷◌, Option, Some, None, option_map, unwrap_or, arith}
 use Rattle.c_tree.specs.declared.items.Arm.{Arm}
 use Rattle.c_tree.specs.declared.types.Star.{Star}
 use Rattle.c_tree.specs.declared.types.TypeName.{TypeName}

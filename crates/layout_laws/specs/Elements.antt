@@ -1,5 +1,5 @@
 -- The types of a table's elements: `char` is the first, and each has the bytes of its shape.
-use Rattle.std.specs.Prelude.{◌≡◌, ℕ, List, length, Some, slice_get, Ok}
+use Rattle.std.specs.Prelude.{◌≡◌, ℕ, length, Some, slice_get, Ok}
 use Rattle.c_tree.specs.declared.items.Unit.{Unit as TextUnit}
 use Rattle.checked_tree.specs.declared.shapes.Scalar.TheVariants as scalar
 use Rattle.checked_tree.specs.declared.shapes.Shape.{Shape}

@@ -22,3 +22,4 @@ pub mod ImageFits
 pub mod MemberNumbers
 pub mod ElementLaws
 pub mod Examples
+pub mod MemberTypeLaws

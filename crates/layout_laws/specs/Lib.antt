@@ -6,3 +6,4 @@ pub mod Limits
 pub mod FirstFits
 pub mod MemberLookups
 pub mod Elements
+pub mod MemberShapes

@@ -14,6 +14,6 @@ pub use lookups::{
     a_struct_is_found_by_its_name,
 };
 pub use structs::{
-    each_element_has_the_bytes_of_its_shape, structs_are_those_declared,
+    each_element_has_the_bytes_of_its_shape, each_member_has_its_type, structs_are_those_declared,
     structs_lie_within_one_another, zero_is_valid,
 };

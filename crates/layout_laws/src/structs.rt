@@ -1,5 +1,6 @@
 //! The structs of a table, the types of its elements, and zero bytes.
 ghost use Rattle.layout_laws.specs.Elements.{EachHasElements};
+ghost use Rattle.layout_laws.specs.MemberShapes.{EachMemberHasItsType};
 ghost use Rattle.layout_laws.specs.StructTable.{EachStructIsDeclared, StructsAreNested};
 ghost use Rattle.layout_laws.specs.ZeroBytes.{ZeroIsValid};
 
@@ -22,4 +23,9 @@ pub fn zero_is_valid()
 /// A table has a shape for each type of its elements, `char` first, and the bytes that are looked up for an element are those that values of its shape take.
 pub fn each_element_has_the_bytes_of_its_shape()
     ensures { EachHasElements }
+{}
+
+/// What a member that is a pointer points to is an element of the table, and a member that is a struct is one that is declared before its own.
+pub fn each_member_has_its_type()
+    ensures { EachMemberHasItsType }
 {}

@@ -1,5 +1,5 @@
 -- What a member's pointer points to is an element of the table, and a struct in a struct is an earlier one.
-use Rattle.std.proofs.Common.{◌≡◌, ℕ, ◌+◌, ◌*◌, ◌<◌, max, Bool, true, false, List, [], ◌∷◌, ◌++◌, length, ℤ, All, Option, Some, None, slice_get, Ok, if◌then◌else◌, refl, sym, ◌∙◌, ap, subst, arith}
+use Rattle.std.proofs.Common.{◌≡◌, ℕ, ◌+◌, ◌*◌, ◌<◌, max, true, List, [], ◌∷◌, ◌++◌, length, ℤ, All, Option, Some, None, slice_get, Ok, sym, ◌∙◌, ap, subst, arith}
 use Rattle.std.proofs.lemmas.Bool.{ltb-true}
 use Rattle.std.proofs.lemmas.List.{length-map}
 use Rattle.std.proofs.lemmas.List.Elements.{All-nil, All-push}
@@ -27,7 +27,6 @@ use Rattle.deputy_types.specs.Declarations.{plain_shape, star_bounds, pointer_sh
 use Rattle.deputy_types.specs.Extents.{no_extent, key_extent, type_extent, round_up_to}
 use Rattle.deputy_types.specs.Siblings.{no_siblings}
 use Rattle.deputy_types.specs.StructLayout.{Surroundings, or_no_decl, is_first, is_new_field, field_shape, field_declared, is_complete, if_complete, siblings_of, counted, element_count, within_limits, placed, with_plain, const_value, arms_extent, arm_tag, if_number, arm_shape, with_arm_of, with_tagged_arm, with_arm, with_next_arm, with_arms_in_turn, is_new_union, with_union_of, with_union_arms, with_union_at, with_union, with_any_field, empty_struct, with_fields_in_turn, laid_out, struct_siblings}
-use Rattle.deputy_types.specs.Table.{Table}
 use Rattle.deputy_types.specs.Types.{element_number, same_element, pointed_key, last_star}
 use Rattle.deputy_types.specs.UnitLayout.{elem_shape}
 use Rattle.deputy_types.proofs.Inversions.{some_then, some_map, if_some, ok_then, ok_declared, if_ok}

@@ -1,0 +1,3 @@
+pub mod Lightness
+pub mod Weights
+pub mod Within

@@ -5,3 +5,5 @@ pub mod Annotating
 pub mod Reading
 pub mod PlaceRules
 pub mod OperatorRules
+pub mod ExpressionRules
+pub mod ShortWords

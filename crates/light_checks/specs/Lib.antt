@@ -1,3 +1,4 @@
 pub mod Lightness
 pub mod Weights
 pub mod Within
+pub mod Words

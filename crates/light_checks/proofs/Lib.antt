@@ -7,3 +7,8 @@ pub mod PlaceRules
 pub mod OperatorRules
 pub mod ExpressionRules
 pub mod ShortWords
+pub mod CoercionRules
+pub mod AssignmentRules
+pub mod CallRules
+pub mod StatementRules
+pub mod Derivations

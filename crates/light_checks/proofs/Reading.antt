@@ -45,7 +45,7 @@ use Rattle.light_checks.proofs.Ensuring.{given}
 use Rattle.light_checks.proofs.Annotating.{looked_up, AreNames, slot_names, member_names, low_bound, high_bound}
 
 -- a number between a negative and a positive one
-between_size : (b : ℕ) (z : ℤ) → is_between (neg_ℤ (pos b)) (pos b) z ≡ true → unsigned_abs z ≤ b
+pub between_size : (b : ℕ) (z : ℤ) → is_between (neg_ℤ (pos b)) (pos b) z ≡ true → unsigned_abs z ≤ b
 between_size b (pos n) h = let e = (and_parts (int_le (neg_ℤ (pos b)) (pos n)) (int_le (pos n) (pos b)) h).1 in grind (arith, ints)
 between_size zero (negsuc n) h = let e = (and_parts (int_le (pos 0) (negsuc n)) (int_le (negsuc n) (pos 0)) h).0 in absurd (grind (arith, ints))
 between_size (suc b) (negsuc n) h = let e = (and_parts (int_le (negsuc b) (negsuc n)) (int_le (negsuc n) (pos (suc b))) h).0 in grind (arith, ints)

@@ -1,4 +1,5 @@
 pub mod Lightness
+pub mod ShortActions
 pub mod Weights
 pub mod Within
 pub mod Words

@@ -14,12 +14,12 @@ use Rattle.deputy_types.specs.declared.element.Element.{Element}
 use Rattle.deputy_types.specs.declared.signature.Returned.{Returned}
 use Rattle.deputy_types.specs.declared.signature.Returned.TheVariants as returned
 use Rattle.deputy_types.specs.declared.signature.Signature.{Signature}
-use Rattle.deputy_types.specs.Changes.{shape_of}
+use Rattle.deputy_types.specs.Changes.{shape_of, unions_of}
 use Rattle.deputy_types.specs.Context.{Context}
 use Rattle.deputy_types.specs.Extents.{key_extent}
 use Rattle.deputy_types.specs.Keys.{IsKey}
 use Rattle.deputy_types.specs.Statements.{Home}
-use Rattle.deputy_types.specs.Table.{Table, element_at, member, member_key, members_of, union_shape}
+use Rattle.deputy_types.specs.Table.{Table, element_at, member, member_key, members_of}
 
 -- what an annotation can name as a number of elements
 abbrev pub is_integer : Option Shape → Bool
@@ -60,7 +60,7 @@ pub record IsTable (t : Table) : Type 0 where
   pub elements : (n : ℕ) (key : Element) → element_at t n ≡ Some key → IsKey key
   pub keys : (s m : ℕ) (key : Element) → member_key t s m ≡ Some key → IsKey key
   pub members : (s m : ℕ) (x : Member) → member t s m ≡ Some x → (x.offset ≤ 65536) × (x.count ≤ 65536)
-  pub unions : (s u : ℕ) (x : UnionShape) → union_shape t s u ≡ Some x → x.offset ≤ 65536
+  pub unions : (s : ℕ) → All (λ (x : UnionShape). x.offset ≤ 65536) (unions_of t s)
   pub structs : (s : ℕ) → AreShapes (map shape_of (members_of t s))
   pub image : (k : ℕ) (b : ImageBlock) → slice_get t.image k ≡ Some b → (b.base ≤ 1048576) × (b.count ≤ 1048576)
 

@@ -2,3 +2,5 @@
 #![tactic(auto)]
 
 mod laws;
+
+pub use laws::{a_condition_has_numbers, a_simple_statement_has_numbers, an_expression_has_numbers, light_checks_have_numbers};

@@ -12,3 +12,5 @@ pub mod AssignmentRules
 pub mod CallRules
 pub mod StatementRules
 pub mod Derivations
+pub mod DeclaredSides
+pub mod DeclaredSlots

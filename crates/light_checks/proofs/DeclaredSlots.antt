@@ -37,6 +37,7 @@ use Rattle.deputy_types.specs.Siblings.{same_part, is_member, member_number, sib
 use Rattle.deputy_types.specs.Table.{Table}
 use Rattle.deputy_types.specs.Types.{element_number, pointed_key, last_star}
 use Rattle.deputy_types.proofs.Inversions.{some_then, some_map, if_some}
+use Rattle.light_checks.specs.Standing.{Stands}
 use Rattle.light_checks.specs.Within.{is_integer, shape_at, IsEdge, IsBounds, IsShape, AreShapes}
 use Rattle.light_checks.specs.Words.{IsReadable}
 use Rattle.light_checks.proofs.DeclaredSides.{IsCounted, IsRoled, AreRoled, IsRoledShape, shape_roled}
@@ -141,11 +142,11 @@ any_member : (name : List ℕ) (ds : List Decl) → list_any (is_member None nam
 any_member name [] = refl
 any_member name (d ∷ ds) = ap (λ b. bytes_eq name d.0 || b) (any_member name ds)
 
-map_length : {X Y : Type 0} (f : X → Y) (xs : List X) → length (map f xs) ≡ length xs
+pub map_length : {X Y : Type 0} (f : X → Y) (xs : List X) → length (map f xs) ≡ length xs
 map_length f [] = refl
 map_length f (x ∷ xs) = ap (λ n. suc n) (map_length f xs)
 
-map_push : {X Y : Type 0} (f : X → Y) (xs : List X) (x : X) → map f (xs ++ x ∷ []) ≡ map f xs ++ f x ∷ []
+pub map_push : {X Y : Type 0} (f : X → Y) (xs : List X) (x : X) → map f (xs ++ x ∷ []) ≡ map f xs ++ f x ∷ []
 map_push f [] x = refl
 map_push f (y ∷ xs) x = ap (λ l. f y ∷ l) (map_push f xs x)
 
@@ -234,7 +235,7 @@ declared_at locals shapes i (e ∷ ds) (suc k) d s h = subst (λ n. is_declared 
 
 -- ---- the shapes of slots
 -- the elements of a list behind which others stand
-front_at : {X : Type 0} (xs ys : List X) (k : ℕ) (x : X) → slice_get xs k ≡ Some x → slice_get (xs ++ ys) k ≡ Some x
+pub front_at : {X : Type 0} (xs ys : List X) (k : ℕ) (x : X) → slice_get xs k ≡ Some x → slice_get (xs ++ ys) k ≡ Some x
 front_at [] ys k x h = absurd cc
 front_at (y ∷ xs) ys zero x h = h
 front_at (y ∷ xs) ys (suc k) x h = front_at xs ys k x h
@@ -315,7 +316,7 @@ module _ (siblings : Siblings) (shapes : List (Option Shape)) (integers : (k : �
   roled_shape_is (shape.Struct s) r = tt
   roled_shape_is shape.Address r = tt
 
-value_roled : (siblings : Siblings) (y x : Shape) → value_shape y ≡ Some x → IsRoledShape siblings y → IsRoledShape siblings x
+pub value_roled : (siblings : Siblings) (y x : Shape) → value_shape y ≡ Some x → IsRoledShape siblings y → IsRoledShape siblings x
 unfolding value_shape
 value_roled siblings (shape.Int s) x h r = given (IsRoledShape siblings) (shape.Int s) x h r
 value_roled siblings (shape.Pointer elem b) x h r = given (IsRoledShape siblings) (shape.Pointer elem b) x h r
@@ -348,7 +349,7 @@ mapped_named t plain siblings decl xs k d h =
     subst (λ (e : Decl). slice_get (map (λ x. named_shape t plain siblings (decl x).0 (decl x).1) xs) k ≡ Some (named_shape t plain siblings e.0 e.1)) m.2
     (slice_get-map (λ x. named_shape t plain siblings (decl x).0 (decl x).1) xs k ∙ ap (option_map (λ x. named_shape t plain siblings (decl x).0 (decl x).1)) m.1)
 
-append_at : {X : Type 0} (xs ys : List X) (k : ℕ) (x : X) → slice_get (xs ++ ys) k ≡ Some x → (slice_get xs k ≡ Some x) ⊎ ((j : ℕ) × (k ≡ length xs + j) × (slice_get ys j ≡ Some x))
+pub append_at : {X : Type 0} (xs ys : List X) (k : ℕ) (x : X) → slice_get (xs ++ ys) k ≡ Some x → (slice_get xs k ≡ Some x) ⊎ ((j : ℕ) × (k ≡ length xs + j) × (slice_get ys j ≡ Some x))
 append_at [] ys k x h = inr (k, omega arith, h)
 append_at (y ∷ xs) ys zero x h = inl h
 append_at (y ∷ xs) ys (suc k) x h = by (append_at xs ys k x h)
@@ -373,17 +374,12 @@ local_names : (ls : List Local) → map (λ (l : Local). l.name) ls ≡ map firs
 local_names [] = refl
 local_names (l ∷ ls) = ap (λ m. l.name ∷ m) (local_names ls)
 
--- a function whose declarations stand
-pub record Declared (t : Table) (f : Function) : Type 0 where
-  pub few : is_over f ≡ false
-  pub stands : wrong_declaration (locals_of f) (slot_shapes t f) f ≡ None
-
 -- a function whose types are readable
 pub record HasReadable (f : Function) : Type 0 where
   pub params : All (λ (p : Param). IsReadable (type_words p.type_name)) f.head.params
   pub locals : All (λ (l : Local). IsReadable (type_words l.type_name)) f.locals
 
-module _ (t : Table) (sizes : (key : Element) → (key_extent t.extents key).bytes ≤ 65536) (f : Function) (is : Declared t f) (words : HasReadable f) where
+module _ (t : Table) (sizes : (key : Element) → (key_extent t.extents key).bytes ≤ 65536) (f : Function) (is : Stands t f) (words : HasReadable f) where
   abbrev ps : List Param
   ps = f.head.params
 

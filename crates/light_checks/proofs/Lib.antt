@@ -19,3 +19,4 @@ pub mod DeclaredStructs
 pub mod DeclaredUnits
 pub mod FoundKeys
 pub mod ShortUnits
+pub mod Refusals

@@ -1,5 +1,6 @@
 pub mod Lightness
 pub mod ShortActions
+pub mod ShortUnits
 pub mod Standing
 pub mod Weights
 pub mod Within

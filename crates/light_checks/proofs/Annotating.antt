@@ -1,6 +1,5 @@
 -- The bounds that an annotation gives weigh no more than a bound may.
-use Rattle.std.proofs.Common.{◌≡◌, ℕ, ◌+◌, ◌*◌, ◌<◌, ◌≤◌, ◌^◌, Bool, true, false, ◌==◌, List, [], ◌∷◌, ◌++◌, map, Option, Some, None, ℤ, pos, unsigned_abs, slice_get, if◌then◌else◌, All, refl, sym, ap, ◌∙◌, subst, arith}
-use Rattle.std.specs.Option.{option_flatten}
+use Rattle.std.proofs.Common.{◌≡◌, ℕ, ◌+◌, ◌*◌, ◌≤◌, ◌^◌, true, List, [], ◌∷◌, Option, Some, None, ℤ, pos, slice_get, All, subst, arith}
 use Rattle.std.proofs.lemmas.List.Elements.{All-head, All-tail}
 use Rattle.std.proofs.lemmas.Int.{unsigned_abs-mul}
 use Rattle.std.proofs.lemmas.Option.{slice_get_within, get_or_from_slice_get}
@@ -12,19 +11,17 @@ use Rattle.checked_tree.specs.declared.shapes.Bounds.TheVariants as bounds
 use Rattle.checked_tree.specs.declared.shapes.Edge.{Edge}
 use Rattle.checked_tree.specs.declared.shapes.Member.{Member}
 use Rattle.checked_tree.specs.declared.shapes.Shape.{Shape}
-use Rattle.checked_tree.specs.declared.sums.Part.{Part}
 use Rattle.checked_tree.specs.declared.sums.Sum.{Sum}
-use Rattle.deputy_types.specs.declared.naming.Names.{Names}
 use Rattle.deputy_types.specs.declared.naming.Names.TheVariants as names
 use Rattle.deputy_types.specs.declared.naming.Naming.{Naming}
 use Rattle.deputy_types.specs.Context.{Context}
 use Rattle.deputy_types.specs.Sums.{plus, scaled, beyond, constant_part}
 use Rattle.deputy_types.specs.Table.{member}
 use Rattle.deputy_types.specs.Values.{member_sum, named_sum, name_sum, with_terms, base_sum, edge_sum, low_sum, high_sum, of_slots, of_struct}
-use Rattle.light_checks.specs.Lightness.{part_factor, part_constant, factors, constants}
-use Rattle.light_checks.specs.Weights.{IsAddress, IsBound, AreSingle, IsSingle}
-use Rattle.light_checks.specs.Within.{is_integer, shape_at, IsEdge, IsBounds, IsShape, AreShapes}
-use Rattle.light_checks.proofs.Weighing.{factors-append, constants-append, scaled_factors, scaled_constants, address_bound, single_address, atom_address, atom_single}
+use Rattle.light_checks.specs.Lightness.{factors, constants}
+use Rattle.light_checks.specs.Weights.{IsAddress, IsBound, IsSingle}
+use Rattle.light_checks.specs.Within.{is_integer, shape_at, IsEdge, IsBounds}
+use Rattle.light_checks.proofs.Weighing.{factors-append, constants-append, scaled_factors, scaled_constants, address_bound, single_address, atom_single}
 
 -- an element that was looked up
 pub looked_up : {X : Type 0} (P : X → Type 0) (xs : List X) (k : ℕ) (x : X) → All P xs → slice_get xs k ≡ Some x → P x

@@ -1,5 +1,5 @@
 -- `l = e`: its checks are light.
-use Rattle.std.proofs.Common.{◌≡◌, ℕ, ◌+◌, ◌≤◌, ◌^◌, Bool, true, false, List, [], ◌∷◌, ◌++◌, map, length, Option, Some, None, option_map, ℤ, pos, unsigned_abs, slice_get, All, refl, sym, ap, ◌∙◌, subst, arith}
+use Rattle.std.proofs.Common.{◌≡◌, ℕ, ◌+◌, ◌≤◌, ◌^◌, Bool, true, false, map, length, Option, Some, option_map, ℤ, pos, unsigned_abs, refl, sym, ap, ◌∙◌, arith}
 use Rattle.std.specs.Option.{option_flatten}
 use Rattle.std.proofs.lemmas.Bool.{false≢true}
 use Rattle.std.proofs.lemmas.Option.{slice_get-map}
@@ -14,7 +14,6 @@ use Rattle.checked_tree.specs.declared.shapes.Scalar.{Scalar}
 use Rattle.checked_tree.specs.declared.shapes.Scalar.TheVariants.{U8}
 use Rattle.checked_tree.specs.declared.shapes.Shape.{Shape}
 use Rattle.checked_tree.specs.declared.shapes.Shape.TheVariants as shape
-use Rattle.checked_tree.specs.declared.sums.Sum.{Sum}
 use Rattle.deputy_types.specs.declared.asked.AskedCond.TheVariants.{Term}
 use Rattle.deputy_types.specs.declared.derived.Derived.{Derived}
 use Rattle.deputy_types.specs.declared.derived.Derived.TheVariants as derived
@@ -29,18 +28,18 @@ use Rattle.deputy_types.specs.Assignment.{assign_integer, assign_automatic, assi
 use Rattle.deputy_types.specs.Changes.{present, struct_names, shape_of}
 use Rattle.deputy_types.specs.Coercion.{converted_side, handed}
 use Rattle.deputy_types.specs.Context.{Context, slot_shape}
-use Rattle.deputy_types.specs.Deriving.{Deriving, bind, pure, none, lift, ask}
+use Rattle.deputy_types.specs.Deriving.{lift}
 use Rattle.deputy_types.specs.Expressions.{derive}
 use Rattle.deputy_types.specs.Keys.{IsKey}
 use Rattle.deputy_types.specs.Sums.{sum_of}
 use Rattle.deputy_types.specs.Table.{element_at, member, members_of}
 use Rattle.deputy_types.specs.Values.{integer_of, is_nullterm, container}
-use Rattle.light_checks.specs.Weights.{IsAddress, IsSingle, IsWhole, IsSource, IsPlace, IsDerived, IsHanded}
-use Rattle.light_checks.specs.Within.{is_integer, shape_at, IsBounds, IsShape, AreShapes, IsContext}
+use Rattle.light_checks.specs.Weights.{IsAddress, IsSingle, IsWhole, IsSource, IsDerived, IsHanded}
+use Rattle.light_checks.specs.Within.{is_integer, shape_at, IsShape, IsContext}
 use Rattle.light_checks.specs.Words.{IsReadable}
-use Rattle.light_checks.proofs.Ensuring.{Ensures, Any, given, then_ensures, pure_ensures, none_ensures, lift_ensures, ask_ensures, if_ensures, weaker}
+use Rattle.light_checks.proofs.Ensuring.{Ensures, Any, then_ensures, pure_ensures, none_ensures, lift_ensures, ask_ensures, weaker}
 use Rattle.light_checks.proofs.Weighing.{address_light, single_address, small_light}
-use Rattle.light_checks.proofs.Annotating.{AreNames, slot_names, member_names}
+use Rattle.light_checks.proofs.Annotating.{slot_names, member_names}
 use Rattle.light_checks.proofs.Reading.{between_size, shape_is, member_shape_is, integer_is}
 use Rattle.light_checks.proofs.CoercionRules.{converted_side_small, handed_is, coerce_to_is, coerce_counted_is, slot_changes_are, member_changes_are, tag_change_is}
 use Rattle.light_checks.proofs.ExpressionRules.{derive_is}

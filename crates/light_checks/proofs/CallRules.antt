@@ -1,5 +1,5 @@
 -- Calls: their checks are light.
-use Rattle.std.proofs.Common.{◌≡◌, ℕ, zero, suc, ◌+◌, ◌≤◌, ◌^◌, Bool, true, false, List, [], ◌∷◌, ◌++◌, map, length, Option, Some, None, option_map, slice_get, unwrap_or, if◌then◌else◌, All, refl, sym, ap, ◌∙◌, subst, append-nil, append_assoc, arith}
+use Rattle.std.proofs.Common.{◌≡◌, ℕ, zero, suc, true, false, List, [], ◌∷◌, ◌++◌, map, Option, Some, None, option_map, slice_get, unwrap_or, All, refl, sym, ◌∙◌, subst, append-nil, append_assoc, arith}
 use Rattle.std.specs.List.{AllZip}
 use Rattle.std.proofs.lemmas.Bool.{false≢true}
 use Rattle.std.proofs.lemmas.List.Elements.{All-head, All-tail}
@@ -7,40 +7,30 @@ use Rattle.c_tree.specs.declared.expressions.Expr.{Expr}
 use Rattle.c_tree.specs.declared.types.TypeName.{TypeName}
 use Rattle.c_tree.specs.Spelling.{spelled}
 use Rattle.checked_tree.specs.declared.kernel.KernelName.{KernelName}
-use Rattle.checked_tree.specs.declared.shapes.Bounds.{Bounds}
 use Rattle.checked_tree.specs.declared.shapes.Shape.{Shape}
 use Rattle.checked_tree.specs.declared.shapes.Shape.TheVariants as shape
-use Rattle.checked_tree.specs.declared.sums.Sum.{Sum}
 use Rattle.deputy_types.specs.declared.derived.Derived.{Derived}
-use Rattle.deputy_types.specs.declared.derived.Value.{Value}
-use Rattle.deputy_types.specs.declared.derived.Value.TheVariants as value
-use Rattle.deputy_types.specs.declared.derived.Whole.{Whole}
-use Rattle.deputy_types.specs.declared.element.Element.{Element}
 use Rattle.deputy_types.specs.declared.handed.Handed.{Handed}
 use Rattle.deputy_types.specs.declared.handed.Passed.{Passed}
 use Rattle.deputy_types.specs.declared.handed.Passed.TheVariants as passed
 use Rattle.deputy_types.specs.declared.kernel_calls.ArgumentKind.{ArgumentKind}
 use Rattle.deputy_types.specs.declared.kernel_calls.ArgumentKind.TheVariants.{Number, Text, Handler}
 use Rattle.deputy_types.specs.declared.kernel_calls.KernelArguments.{KernelArguments}
-use Rattle.deputy_types.specs.declared.naming.Names.TheVariants as names
 use Rattle.deputy_types.specs.declared.naming.Naming.{Naming}
 use Rattle.deputy_types.specs.declared.signature.Signature.{Signature}
 use Rattle.deputy_types.specs.Calls.{function_number, call_target, pass, pass_one, pass_each, passed_sum, coerce_shape, coerce_value, coerce_passed, coerce_each, of_arguments, call_function, kernel_result, handler, text_key, kernel_argument, kernel_arguments, no_arguments, call_kernel, call_numbered, call_named, call_by, call, kalloc_target, counted, elem_bytes, kalloc, freed_value, kfree}
-use Rattle.deputy_types.specs.Coercion.{converted_side, handed, handed_over, null}
+use Rattle.deputy_types.specs.Coercion.{converted_side, handed}
 use Rattle.deputy_types.specs.Context.{Context}
-use Rattle.deputy_types.specs.Deriving.{Deriving, bind, pure, none, lift, ask}
-use Rattle.deputy_types.specs.Expressions.{derive}
-use Rattle.deputy_types.specs.Keys.{IsKey}
 use Rattle.deputy_types.specs.KernelCalls.{kernel_row, kernel_named}
 use Rattle.deputy_types.specs.Options.{and_then}
 use Rattle.deputy_types.specs.Sums.{sum_of}
 use Rattle.deputy_types.specs.Table.{elem, element_at}
 use Rattle.deputy_types.specs.Values.{integer_of, value_of, is_nullterm, nothing, named_sum, name_sum}
 use Rattle.deputy_types.proofs.Inversions.{some_then, some_map}
-use Rattle.light_checks.specs.Weights.{IsAddress, IsSmallPart, IsSingle, IsWhole, IsDerived, IsHanded}
-use Rattle.light_checks.specs.Within.{is_integer, shape_at, IsBounds, IsShape, AreShapes, IsContext}
+use Rattle.light_checks.specs.Weights.{IsAddress, IsSmallPart, IsSingle, IsDerived, IsHanded}
+use Rattle.light_checks.specs.Within.{is_integer, shape_at, IsShape, AreShapes, IsContext}
 use Rattle.light_checks.specs.Words.{IsReadable}
-use Rattle.light_checks.proofs.Ensuring.{Ensures, Any, given, then_ensures, pure_ensures, none_ensures, lift_ensures, ask_ensures, if_ensures, weaker}
+use Rattle.light_checks.proofs.Ensuring.{Ensures, Any, then_ensures, pure_ensures, none_ensures, lift_ensures}
 use Rattle.light_checks.proofs.Weighing.{single_address}
 use Rattle.light_checks.proofs.Annotating.{looked_up, AreNames}
 use Rattle.light_checks.proofs.Reading.{integer_is}

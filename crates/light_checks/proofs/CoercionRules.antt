@@ -1,17 +1,13 @@
 -- Conversions, coercions, and what an assignment changes for its siblings: their checks are light.
-use Rattle.std.proofs.Common.{◌≡◌, ℕ, ◌+◌, ◌≤◌, ◌^◌, Bool, true, false, ◌&&◌, ◌==◌, nat_lt, List, [], ◌∷◌, ◌++◌, map, Option, Some, None, option_map, find, ℤ, pos, negsuc, ◌*ℤ◌, unsigned_abs, slice_get, cond, if◌then◌else◌, All, refl, sym, ap, ◌∙◌, subst, true≢false, arith}
-use Rattle.std.specs.Option.{option_flatten}
-use Rattle.std.proofs.lemmas.Bool.{eqb-true, false≢true}
+use Rattle.std.proofs.Common.{◌≡◌, ℕ, ◌+◌, ◌≤◌, ◌^◌, Bool, true, false, ◌&&◌, ◌==◌, nat_lt, List, [], ◌∷◌, ◌++◌, map, Option, Some, None, find, ℤ, pos, negsuc, ◌*ℤ◌, unsigned_abs, cond, if◌then◌else◌, All, refl, sym, subst, arith}
+use Rattle.std.proofs.lemmas.Bool.{eqb-true}
 use Rattle.std.proofs.lemmas.Int.{unsigned_abs-mul}
 use Rattle.std.proofs.lemmas.Nat.{mul-le}
 use Rattle.std.proofs.lemmas.List.Elements.{All-head, All-tail}
-use Rattle.std.proofs.lemmas.Option.{slice_get-map}
 use Rattle.sd_base.specs.declared.kinds.CheckKind.{CheckKind}
 use Rattle.sd_base.specs.declared.kinds.CheckKind.TheVariants as kind
-use Rattle.checked_tree.specs.declared.expressions.CheckedExpr.{CheckedExpr}
 use Rattle.checked_tree.specs.declared.shapes.Bounds.{Bounds}
 use Rattle.checked_tree.specs.declared.shapes.Bounds.TheVariants as bounds
-use Rattle.checked_tree.specs.declared.shapes.Member.{Member}
 use Rattle.checked_tree.specs.declared.shapes.Scalar.{Scalar}
 use Rattle.checked_tree.specs.declared.shapes.Shape.{Shape}
 use Rattle.checked_tree.specs.declared.shapes.Shape.TheVariants as shape
@@ -19,7 +15,6 @@ use Rattle.checked_tree.specs.declared.shapes.UnionShape.{UnionShape}
 use Rattle.checked_tree.specs.declared.sums.Part.{Part}
 use Rattle.checked_tree.specs.declared.sums.Part.TheVariants.{Constant}
 use Rattle.checked_tree.specs.declared.sums.Sum.{Sum}
-use Rattle.checked_tree.specs.Numbers.{converted}
 use Rattle.deputy_types.specs.declared.asked.AskedCond.TheVariants.{Guarded, Aligned, Kept}
 use Rattle.deputy_types.specs.declared.derived.Derived.{Derived}
 use Rattle.deputy_types.specs.declared.derived.Place.{Place}
@@ -32,22 +27,21 @@ use Rattle.deputy_types.specs.declared.handed.Handed.{Handed}
 use Rattle.deputy_types.specs.declared.naming.Names.{Names}
 use Rattle.deputy_types.specs.declared.naming.Names.TheVariants as names
 use Rattle.deputy_types.specs.declared.naming.Naming.{Naming}
-use Rattle.deputy_types.specs.Changes.{present, changed, change_at, pointer_change, sibling_change, optional_change, sibling_changes, slot_changes, shape_of, struct_names, member_changes, unions_of, tagged, union_address, loaded, ask_kept, optional_kept, tag_change}
+use Rattle.deputy_types.specs.Changes.{present, changed, pointer_change, sibling_change, optional_change, sibling_changes, slot_changes, shape_of, struct_names, member_changes, unions_of, tagged, union_address, loaded, ask_kept, optional_kept, tag_change}
 use Rattle.deputy_types.specs.Coercion.{has_all, cast_part, side_by, converted_side, null, handed_over, handed_value, handed, ask_aligned, coerce, coerce_within, coerce_to, coerce_counted}
 use Rattle.deputy_types.specs.Context.{Context, slot_shape}
-use Rattle.deputy_types.specs.Deriving.{Deriving, bind, pure, none, lift, ask}
 use Rattle.deputy_types.specs.Operators.{same_truth}
 use Rattle.deputy_types.specs.Pointers.{is_written}
-use Rattle.deputy_types.specs.Sums.{constant, constant_of, constant_part, atom_part, with_part, beyond, sum_of}
-use Rattle.deputy_types.specs.Table.{bounds_name, element_at, member, members_of}
+use Rattle.deputy_types.specs.Sums.{constant, constant_of, atom_part, with_part, beyond}
+use Rattle.deputy_types.specs.Table.{bounds_name, element_at, members_of}
 use Rattle.deputy_types.specs.Types.{same_element}
-use Rattle.deputy_types.specs.Values.{value_of, size_of, low_sum, high_sum, name_sum, named_sum, changed_sum, container}
+use Rattle.deputy_types.specs.Values.{value_of, size_of, low_sum, high_sum, name_sum, named_sum, container}
 use Rattle.deputy_types.proofs.Inversions.{some_then}
-use Rattle.light_checks.specs.Lightness.{IsLight, IsLightPart}
+use Rattle.light_checks.specs.Lightness.{IsLight}
 use Rattle.light_checks.specs.Weights.{IsAddress, IsBound, IsSmallPart, IsSingle, IsWhole, IsPointed, IsValue, IsDerived, IsHanded}
-use Rattle.light_checks.specs.Within.{is_integer, shape_at, IsBounds, IsShape, AreShapes, IsContext}
-use Rattle.light_checks.proofs.Ensuring.{Ensures, Any, given, then_ensures, pure_ensures, none_ensures, lift_ensures, ask_ensures, if_ensures}
-use Rattle.light_checks.proofs.Weighing.{address_light, bound_light, address_bound, address_more, with_part_address, with_part_bound, beyond_address, constant_address, small_light}
+use Rattle.light_checks.specs.Within.{is_integer, shape_at, IsBounds, IsShape, IsContext}
+use Rattle.light_checks.proofs.Ensuring.{Ensures, Any, given, then_ensures, pure_ensures, lift_ensures, ask_ensures, if_ensures}
+use Rattle.light_checks.proofs.Weighing.{address_light, bound_light, address_bound, with_part_address, with_part_bound, beyond_address, constant_address, small_light}
 use Rattle.light_checks.proofs.Annotating.{AreNames, single_names, slot_single, member_single, low_bound, high_bound}
 use Rattle.light_checks.proofs.OperatorRules.{converted_small}
 use Rattle.light_checks.proofs.Reading.{value_is}
@@ -216,7 +210,7 @@ module _ (ctx : Context) (is : IsContext ctx) (n : ℕ) (few : n + 2 ≤ 2 ^ 30)
   kept_is p offset scalar new u a h k small =
       then_ensures _ _ Any Any
       (ask_ensures ctx kind.Change (Kept (loaded scalar p) new (union_address p.at offset u.offset) u.size)
-          (record { factors = omega arith; constants = omega arith }, small_light new small, address_light (n + 1 + 1) (union_address p.at offset u.offset) (omega arith) (union_address_is p.at offset u.offset a h k)))
+      (record { factors = omega arith; constants = omega arith }, small_light new small, address_light (n + 1 + 1) (union_address p.at offset u.offset) (omega arith) (union_address_is p.at offset u.offset a h k)))
       (λ id any. pure_ensures _ Any tt)
 
   pub tag_change_is : (p : Place) (s m offset : ℕ) (scalar : Scalar) (new : Part) → IsAddress n p.at → offset ≤ 65536 → IsSmallPart new → Ensures (tag_change ctx p s m offset scalar new) Any

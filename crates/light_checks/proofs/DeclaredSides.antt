@@ -1,6 +1,6 @@
 -- The bounds that a short declaration gives: its numbers are small, and each factor stands before a sibling that is a number of elements.
-use Rattle.std.proofs.Common.{◌≡◌, ℕ, zero, suc, ◌+◌, ◌*◌, ◌≤◌, ◌^◌, Bool, true, false, cond, not, ◌&&◌, ◌==◌, List, [], ◌∷◌, ◌++◌, length, Option, Some, None, option_map, ℤ, pos, negsuc, neg_ℤ, ◌+ℤ◌, ◌*ℤ◌, unsigned_abs, slice_get, if◌then◌else◌, All, refl, sym, ap, ◌∙◌, subst, arith}
-use Rattle.std.proofs.lemmas.Int.{ints, unsigned_abs-mul}
+use Rattle.std.proofs.Common.{◌≡◌, ℕ, zero, suc, ◌+◌, ◌*◌, ◌≤◌, ◌^◌, Bool, true, false, cond, List, [], ◌∷◌, ◌++◌, length, Option, Some, None, option_map, ℤ, pos, ◌+ℤ◌, unsigned_abs, slice_get, if◌then◌else◌, All, refl, sym, ap, ◌∙◌, subst, arith}
+use Rattle.std.proofs.lemmas.Int.{unsigned_abs-mul}
 use Rattle.std.proofs.lemmas.Nat.{mul-le}
 use Rattle.std.proofs.lemmas.List.{length-append}
 use Rattle.std.proofs.lemmas.List.Elements.{All-nil, All-head, All-push}
@@ -18,7 +18,7 @@ use Rattle.c_tree.specs.declared.types.Term.TheVariants as term
 use Rattle.c_tree.specs.declared.types.TypeName.{TypeName}
 use Rattle.c_tree.specs.declared.words.Word.{Word}
 use Rattle.c_tree.specs.declared.words.Word.TheVariants as word
-use Rattle.c_tree.specs.Spelling.{a_sign, a_name, a_number, a_keyword, base_words, term_words, signed_words, first_words, terms_words, sum_words, offset_words, addr_words, in_parentheses, annotation_words, noted_words, stars_words, type_words}
+use Rattle.c_tree.specs.Spelling.{a_sign, a_name, a_keyword, base_words, term_words, signed_words, first_words, terms_words, sum_words, offset_words, addr_words, in_parentheses, annotation_words, noted_words, stars_words, type_words}
 use Rattle.checked_tree.specs.declared.shapes.Bounds.{Bounds}
 use Rattle.checked_tree.specs.declared.shapes.Bounds.TheVariants as bounds
 use Rattle.checked_tree.specs.declared.shapes.Edge.{Edge}
@@ -34,7 +34,7 @@ use Rattle.deputy_types.specs.declared.sibling.Unannotated.TheVariants as unanno
 use Rattle.deputy_types.specs.declared.siblings.Siblings.{Siblings}
 use Rattle.deputy_types.specs.declared.types.Types.{Types}
 use Rattle.deputy_types.specs.Declarations.{own, in_bytes, is_small, if_small, with_bytes, with_number, with_term, integer_at, integer_number, pointer_number, edge_named, edge_with, edge_term, edge_terms, edge_offset, bound_end, up_to, both_ends, default_bounds, annotated_bounds, star_bounds, plain_shape, pointer_to, pointer_shape, shape_behind, typed_shape}
-use Rattle.deputy_types.specs.Extents.{AreExtents, key_extent}
+use Rattle.deputy_types.specs.Extents.{key_extent}
 use Rattle.deputy_types.specs.Options.{and_then}
 use Rattle.deputy_types.specs.Siblings.{sibling_number, role_of}
 use Rattle.deputy_types.specs.Types.{signed_number, is_char, element_number, pointed_key, last_star}
@@ -228,8 +228,10 @@ module _ (size : ℕ) (few : size ≤ 65536) (siblings : Siblings) where
       let words = inside (sum_words sum.terms) (both_readable (a_keyword keyword.Count) (in_parentheses (sum_words sum.terms)) r).1 in
       let enough = sum_few size few siblings sum.terms in
       let less = words.words in
-      subst (AreRoled siblings) m.2 (roled 0 own (omega arith) (from_base None),
-      roled (0 + length sum.terms) m.0 (omega arith) (terms_side size few siblings 0 own m.0 sum.terms (sum_small size few siblings sum.terms words) (from_base None) m.1))
+      subst (AreRoled siblings) m.2 (
+        roled 0 own (omega arith) (from_base None),
+        roled (0 + length sum.terms) m.0 (omega arith) (terms_side size few siblings 0 own m.0 sum.terms (sum_small size few siblings sum.terms words) (from_base None) m.1),
+      )
   annotated_roled place elem key (annotation.Bound lo hi) b r h =
       let words = inside (addr_words lo ++ (a_sign sign.Comma ++ addr_words hi)) (both_readable (a_keyword keyword.Bound) (in_parentheses (addr_words lo ++ (a_sign sign.Comma ++ addr_words hi))) r).1 in
       let first = both_readable (addr_words lo) (a_sign sign.Comma ++ addr_words hi) words in

@@ -1,11 +1,11 @@
 -- The slots of a function whose declarations stand: what its annotations name as a number of elements is an integer.
-use Rattle.std.proofs.Common.{◌≡◌, ◌⊎◌, inl, inr, ℕ, zero, suc, ◌+◌, ◌-◌, ◌≤◌, ◌<◌, ◌^◌, Bool, true, false, cond, not, ◌&&◌, ◌==◌, nat_lt, is_some, List, [], ◌∷◌, ◌++◌, map, length, Option, Some, None, option_map, position, ◌||◌, bytes_eq, slice_get, if◌then◌else◌, All, refl, sym, ap, ◌∙◌, subst, append-nil, append_assoc, arith}
+use Rattle.std.proofs.Common.{◌≡◌, ◌⊎◌, inl, inr, ℕ, zero, suc, ◌+◌, ◌-◌, ◌≤◌, ◌<◌, ◌^◌, Bool, true, false, cond, not, nat_lt, is_some, List, [], ◌∷◌, ◌++◌, map, length, Option, Some, None, option_map, position, ◌||◌, bytes_eq, slice_get, if◌then◌else◌, All, refl, sym, ap, ◌∙◌, subst, append-nil, append_assoc, arith}
 use Rattle.std.specs.List.{list_any, position_or_len}
 use Rattle.std.specs.Option.{option_flatten}
 use Rattle.std.proofs.lemmas.Bool.{and_parts, eqb-true, ltb-false, lt-ltb, true≢false}
 use Rattle.std.proofs.lemmas.List.{length-append}
-use Rattle.std.proofs.lemmas.List.Elements.{All-nil, All-cons, All-head, All-tail, All-append, All-push, All-map, All-weaker}
-use Rattle.std.proofs.lemmas.Option.{slice_get-map, slice_get_within}
+use Rattle.std.proofs.lemmas.List.Elements.{All-nil, All-cons, All-append, All-map, All-weaker}
+use Rattle.std.proofs.lemmas.Option.{slice_get-map}
 use Rattle.c_tree.specs.declared.items.Function.{Function}
 use Rattle.c_tree.specs.declared.items.Local.{Local}
 use Rattle.c_tree.specs.declared.items.Param.{Param}
@@ -28,15 +28,15 @@ use Rattle.deputy_types.specs.declared.sibling.Unannotated.{Unannotated}
 use Rattle.deputy_types.specs.declared.sibling.Unannotated.TheVariants.{Safe, Hidden}
 use Rattle.deputy_types.specs.declared.siblings.Siblings.{Siblings}
 use Rattle.deputy_types.specs.declared.types.Types.{Types}
-use Rattle.deputy_types.specs.Declarations.{plain_shape, shape_behind, typed_shape, is_text, numbered_role, plain_role, pointer_role, role_behind, role_by, declared_role}
+use Rattle.deputy_types.specs.Declarations.{shape_behind, typed_shape, is_text, numbered_role, role_behind, role_by, declared_role}
 use Rattle.deputy_types.specs.Extents.{key_extent}
 use Rattle.deputy_types.specs.Heads.{with_parameters, parameter_siblings, with_locals, local_siblings, value_shape, named_shape, parameter_shape, local_shape, parameter_shapes, with_hidden, slot_shapes, is_over, is_declared, declaration_stands, wrong_parameter, wrong_local, or_else, wrong_declaration}
 use Rattle.deputy_types.specs.Agreement.{same_place}
 use Rattle.deputy_types.specs.Options.{and_then}
-use Rattle.deputy_types.specs.Siblings.{same_part, is_member, member_number, sibling_number, role_of, is_new_member, with_member, with_sibling, no_siblings}
+use Rattle.deputy_types.specs.Siblings.{is_member, sibling_number, role_of, is_new_member, with_member, with_sibling, no_siblings}
 use Rattle.deputy_types.specs.Table.{Table}
 use Rattle.deputy_types.specs.Types.{element_number, pointed_key, last_star}
-use Rattle.deputy_types.proofs.Inversions.{some_then, some_map, if_some}
+use Rattle.deputy_types.proofs.Inversions.{some_then, some_map}
 use Rattle.light_checks.specs.Standing.{Stands}
 use Rattle.light_checks.specs.Within.{is_integer, shape_at, IsEdge, IsBounds, IsShape, AreShapes}
 use Rattle.light_checks.specs.Words.{IsReadable}
@@ -186,7 +186,7 @@ aligned_all types names extra [] before s a e are few = subst (λ l. Aligned typ
 aligned_all types names extra (d ∷ ds) before s a e are few =
     let size : length (map first before) ≡ length before = map_length first before in
     let here : position (bytes_eq d.0) (map first before ++ (d.0 ∷ (map first ds ++ extra))) ≡ Some (length (map first before)) =
-        ap (position (bytes_eq d.0)) (sym e) ∙ (are.0 ∙ ap (λ n. Some n) (sym size)) in
+    ap (position (bytes_eq d.0)) (sym e) ∙ (are.0 ∙ ap (λ n. Some n) (sym size)) in
     let next = aligned_push types before d s a (not_before (bytes_eq d.0) (map first before) (d.0 ∷ (map first ds ++ extra)) here) (omega arith) in
     let more : length (before ++ d ∷ []) ≡ length before + 1 = length-append before (d ∷ []) in
     subst (λ l. Aligned types l (with_decls types ds (with_sibling s (member_of d) (decl_role types d)))) (append_assoc before (d ∷ []) ds)
@@ -467,10 +467,13 @@ module _ (t : Table) (sizes : (key : Element) → (key_extent t.extents key).byt
           → (plain : Unannotated) × (siblings : Siblings) × (slice_get (with_hidden ls (parameter_shapes t ps ++ map (local_shape t all_siblings) ls)) k ≡ Some (named_shape t plain siblings d.0 d.1))
       by (inl e) = (Safe, param_siblings, param_in k d e)
       by (inr (j, e, g)) =
-          let o = named_shape t Hidden all_siblings d.0 d.1 in
-          (Hidden, all_siblings, hidden_at ls (parameter_shapes t ps ++ map (local_shape t all_siblings) ls) k o
-          (subst (λ n. slice_get (parameter_shapes t ps ++ map (local_shape t all_siblings) ls) n ≡ Some o) (ap (λ n. n + j) params_length ∙ sym e)
-          (back_at (parameter_shapes t ps) (map (local_shape t all_siblings) ls) j o (mapped_named t Hidden all_siblings local_decl ls j d g))))
+          let o = named_shape t Hidden all_siblings d.0 d.1 in (
+            Hidden,
+            all_siblings,
+            hidden_at ls (parameter_shapes t ps ++ map (local_shape t all_siblings) ls) k o
+                (subst (λ n. slice_get (parameter_shapes t ps ++ map (local_shape t all_siblings) ls) n ≡ Some o) (ap (λ n. n + j) params_length ∙ sym e)
+                (back_at (parameter_shapes t ps) (map (local_shape t all_siblings) ls) j o (mapped_named t Hidden all_siblings local_decl ls j d g))),
+          )
 
   all_there : (k : ℕ) (d : Decl) → slice_get (pd ++ ld) k ≡ Some d → is_declared final k ≡ true
   all_there k d h = subst (λ n. is_declared final n ≡ true) (omega arith) (declared_at (locals_of f) final 0 (pd ++ ld) k d (stand_both (locals_of f) final 0 pd ld params_stand (subst (λ n. Stand (locals_of f) final n ld) (omega arith) others_stand)) h)

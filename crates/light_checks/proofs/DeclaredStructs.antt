@@ -1,9 +1,8 @@
 -- A struct of short fields that was laid out: where its members lie, what its annotations reach, and what they name.
-use Rattle.std.proofs.Common.{◌≡◌, ◌≢◌, ◌⊎◌, inl, inr, ℕ, zero, suc, ◌+◌, ◌-◌, ◌*◌, ◌/◌, ◌≤◌, ◌<◌, ◌^◌, max, min, Bool, true, false, cond, not, ◌&&◌, ◌||◌, ◌==◌, nat_lt, nat_le, is_some, List, [], ◌∷◌, ◌++◌, map, length, Option, Some, None, option_map, unwrap_or, Result, Ok, Err, ℤ, pos, position, bytes_eq, slice_get, if◌then◌else◌, All, refl, sym, ap, ◌∙◌, subst, append-nil, append_assoc, arith}
+use Rattle.std.proofs.Common.{◌≡◌, ◌≢◌, ◌⊎◌, inl, inr, ℕ, zero, suc, ◌+◌, ◌*◌, ◌≤◌, ◌<◌, max, Bool, true, false, not, ◌&&◌, nat_lt, nat_le, is_some, List, [], ◌∷◌, ◌++◌, map, length, Option, Some, None, option_map, unwrap_or, Ok, Err, ℤ, position, bytes_eq, slice_get, if◌then◌else◌, All, refl, sym, ap, ◌∙◌, subst, append-nil, append_assoc, arith}
 use Rattle.std.specs.List.{list_any}
-use Rattle.std.specs.Ordering.{int_eq}
 use Rattle.std.specs.Option.{option_flatten}
-use Rattle.std.proofs.lemmas.Bool.{and_parts, eqb-true, ltb-false, leb-false, leb-true, true≢false, false≢true}
+use Rattle.std.proofs.lemmas.Bool.{and_parts, eqb-true, ltb-false, leb-false, leb-true, false≢true}
 use Rattle.std.proofs.lemmas.List.{length-append}
 use Rattle.std.proofs.lemmas.List.Elements.{All-nil, All-push, All-map, All-weaker}
 use Rattle.c_tree.specs.declared.items.Arm.{Arm}
@@ -21,7 +20,6 @@ use Rattle.checked_tree.specs.declared.shapes.Scalar.TheVariants as scalar
 use Rattle.checked_tree.specs.declared.shapes.Shape.{Shape}
 use Rattle.checked_tree.specs.declared.shapes.Shape.TheVariants as shape
 use Rattle.checked_tree.specs.declared.shapes.UnionShape.{UnionShape}
-use Rattle.checked_tree.specs.declared.shapes.Bounds.{Bounds}
 use Rattle.checked_tree.specs.declared.shapes.Bounds.TheVariants as bounds
 use Rattle.checked_tree.specs.declared.shapes.Edge.{Edge}
 use Rattle.deputy_types.specs.declared.element.Element.{Element}
@@ -38,15 +36,14 @@ use Rattle.deputy_types.specs.declared.types.Types.{Types}
 use Rattle.deputy_types.specs.Changes.{shape_of}
 use Rattle.deputy_types.specs.Declarations.{typed_shape, declared_role}
 use Rattle.deputy_types.specs.Extents.{IsExtent, AreExtents, natural, no_extent, key_extent, stars_extent, type_extent, round_up_to, greater}
-use Rattle.deputy_types.specs.Found.{with_name}
 use Rattle.deputy_types.specs.Options.{and_then}
 use Rattle.deputy_types.specs.Siblings.{is_member, member_number, role_of, is_new_member, with_member, with_sibling, no_siblings}
-use Rattle.deputy_types.specs.StructLayout.{Surroundings, or_no_decl, tags_of, with_field_sibling, with_arm_siblings, next_part, field_siblings, struct_siblings, is_number, is_first, is_new_field, field_shape, field_declared, is_complete, if_complete, siblings_of, counted, element_count, within_limits, placed, with_plain, arms_extent, const_value, arm_tag, if_number, arm_shape, with_arm_of, with_tagged_arm, with_arm, with_next_arm, with_arms_in_turn, is_new_union, with_union_of, with_union_arms, with_union_at, with_union, with_any_field, empty_struct, with_fields_in_turn, laid_out, head_of_struct, laid_with, struct_laid}
+use Rattle.deputy_types.specs.StructLayout.{Surroundings, or_no_decl, tags_of, with_field_sibling, with_arm_siblings, next_part, field_siblings, struct_siblings, is_number, is_first, is_new_field, field_shape, field_declared, is_complete, if_complete, siblings_of, counted, element_count, within_limits, placed, with_plain, arms_extent, const_value, arm_tag, if_number, arm_shape, with_arm_of, with_tagged_arm, with_arm, with_next_arm, with_arms_in_turn, is_new_union, with_union_of, with_union_arms, with_union_at, with_union, empty_struct, with_fields_in_turn, laid_out, head_of_struct, laid_with, struct_laid}
 use Rattle.deputy_types.specs.Types.{base_key}
 use Rattle.deputy_types.proofs.Inversions.{some_then, some_map, if_some, ok_then, ok_declared, if_ok, unless_ok, within_is}
 use Rattle.light_checks.specs.Within.{is_integer, shape_at, IsShape, AreShapes}
 use Rattle.light_checks.specs.Words.{IsReadable}
-use Rattle.light_checks.proofs.DeclaredSides.{IsCounted, IsRoled, AreRoled, IsRoledShape, shape_roled}
+use Rattle.light_checks.proofs.DeclaredSides.{IsCounted, IsRoled, IsRoledShape, shape_roled}
 use Rattle.light_checks.proofs.DeclaredSlots.{role_integer, not_before, joined, is_new, map_push, front_at, append_at, map_length, roled_shape_is}
 use Rattle.light_checks.proofs.Ensuring.{some_same, given}
 use Rattle.light_checks.proofs.PrivateTypes.{Laying, Arms, Laid}
@@ -172,7 +169,7 @@ tracks_push : (full s : Siblings) (members : List Member) (m : Member) (name : M
     → Tracks full (with_sibling s name r) (members ++ m ∷ [])
 tracks_push full s members m name r t is e found few integer =
     let number : position (is_member name.part name.name) (s.names ++ e.0) ≡ Some (length s.names) =
-        ap (position (is_member name.part name.name)) (sym e.1) ∙ (found ∙ ap (λ n. Some n) (sym t.names)) in
+    ap (position (is_member name.part name.name)) (sym e.1) ∙ (found ∙ ap (λ n. Some n) (sym t.names)) in
     let size = t.names in
     let new = is_new s.names name (not_before (is_member name.part name.name) s.names e.0 number) (omega arith) in
     let here : (k : ℕ) → slice_get (s.roles ++ r ∷ []) k ≡ Some role.Integer → is_integer (shape_at (map shape_of members ++ Some m.shape ∷ []) k) ≡ true = at in
@@ -289,9 +286,10 @@ module _ (at : Surroundings) (extents : AreExtents at.extents) where
   unfolding field_shape
   field_roled m d x r h =
       let t = some_then (typed_shape at.types at.extents unannotated.Safe (siblings_of at.siblings d.size) m d.type_name) (if_complete at.number) x h in
-      let e : t.0 ≡ x = some_same t.0 x (if_some (is_complete at.number t.0) (Some t.0) x t.2) in
-      (subst (IsRoledShape at.siblings) e (by d.size t.0 (shape_roled at.types at.extents unannotated.Safe (siblings_of at.siblings d.size) m d.type_name t.0 sizes r t.1)),
-        λ tag g. subst (λ y. is_integer (Some y) ≡ true) e (role_integer at.types at.extents unannotated.Safe (siblings_of at.siblings d.size) m (is_some d.size) tag d.type_name t.0 g t.1))
+      let e : t.0 ≡ x = some_same t.0 x (if_some (is_complete at.number t.0) (Some t.0) x t.2) in (
+        subst (IsRoledShape at.siblings) e (by d.size t.0 (shape_roled at.types at.extents unannotated.Safe (siblings_of at.siblings d.size) m d.type_name t.0 sizes r t.1)),
+        λ tag g. subst (λ y. is_integer (Some y) ≡ true) e (role_integer at.types at.extents unannotated.Safe (siblings_of at.siblings d.size) m (is_some d.size) tag d.type_name t.0 g t.1),
+      )
     where
       by : (size : Option Number) (y : Shape) → IsRoledShape (siblings_of at.siblings size) y → IsRoledShape at.siblings y
       by None y r = r
@@ -342,9 +340,11 @@ module _ (at : Surroundings) (extents : AreExtents at.extents) where
         tracks = tracks_push at.siblings s laying.members member (record { part = None; name = d.name }) (declared_role at.types (is_some d.size) tag d.type_name) sound.tracks lies more first few
             (λ g. subst (λ y. is_integer (Some y) ≡ true) same (roled.1 tag g));
       } in
-      let e : next ≡ out = cc in
-      (subst (λ (o : Laying). Sound at.siblings (with_field_sibling at.types tags s d) o) e all,
-        ap (λ (o : Laying). length o.members) (sym e) ∙ length-append laying.members (member ∷ []), ap (λ (o : Laying). length o.unions) (sym e))
+      let e : next ≡ out = cc in (
+        subst (λ (o : Laying). Sound at.siblings (with_field_sibling at.types tags s d) o) e all,
+        ap (λ (o : Laying). length o.members) (sym e) ∙ length-append laying.members (member ∷ []),
+        ap (λ (o : Laying). length o.unions) (sym e),
+      )
 
   -- ---- the arms of a union
   arm_roled : (a : Arm) (x : Shape) → IsReadable (type_words a.type_name) → arm_shape at a ≡ Some x → IsRoledShape at.siblings x
@@ -426,9 +426,11 @@ module _ (at : Surroundings) (extents : AreExtents at.extents) where
         unions = All-push (λ (u : UnionShape). u.offset ≤ 65536) laying.unions union sound.unions (omega (arith, holds.1));
         tracks = tracked.0;
       } in
-      let same : next ≡ out = cc in
-      (subst (λ (o : Laying). Sound at.siblings (with_arm_siblings (length laying.unions) s arms) o) same all,
-        ap (λ (o : Laying). length o.members) (sym same) ∙ tracked.1, ap (λ (o : Laying). length o.unions) (sym same) ∙ grown)
+      let same : next ≡ out = cc in (
+        subst (λ (o : Laying). Sound at.siblings (with_arm_siblings (length laying.unions) s arms) o) same all,
+        ap (λ (o : Laying). length o.members) (sym same) ∙ tracked.1,
+        ap (λ (o : Laying). length o.unions) (sym same) ∙ grown,
+      )
 
   -- ---- all fields
   fields_sound : (tags : List (List ℕ)) (s : Siblings) (laying : Laying) (fields : List Field) (out : Laying) → Sound at.siblings s laying

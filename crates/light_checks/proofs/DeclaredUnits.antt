@@ -1,9 +1,8 @@
 -- The table of a short unit: the types, the structs and the load image.
-use Rattle.std.proofs.Common.{◌≡◌, ℕ, zero, suc, ◌+◌, ◌-◌, ◌*◌, ◌/◌, ◌≤◌, ◌<◌, ◌^◌, Bool, true, false, cond, not, ◌&&◌, ◌||◌, nat_lt, nat_le, is_some, List, [], ◌∷◌, ◌++◌, map, length, replicate, Option, Some, None, IfSome, option_map, unwrap_or, Result, Ok, Err, ℤ, pos, bytes_eq, slice_get, if◌then◌else◌, All, refl, sym, ap, ◌∙◌, subst, arith}
-use Rattle.std.specs.List.{list_any}
+use Rattle.std.proofs.Common.{◌≡◌, ℕ, zero, suc, ◌+◌, ◌*◌, ◌≤◌, Bool, true, false, nat_lt, nat_le, is_some, List, [], ◌∷◌, ◌++◌, map, length, Option, Some, None, IfSome, option_map, unwrap_or, Result, Ok, Err, ℤ, slice_get, if◌then◌else◌, All, refl, subst, arith}
 use Rattle.std.specs.Option.{option_flatten}
 use Rattle.std.proofs.lemmas.Bool.{ltb-false}
-use Rattle.std.proofs.lemmas.List.Elements.{All-nil, All-cons, All-head, All-tail, All-push, All-append, All-weaker}
+use Rattle.std.proofs.lemmas.List.Elements.{All-nil, All-cons, All-head, All-tail, All-push, All-append}
 use Rattle.c_tree.specs.declared.items.Arm.{Arm}
 use Rattle.c_tree.specs.declared.items.Field.{Field}
 use Rattle.c_tree.specs.declared.items.Field.TheVariants as field
@@ -11,7 +10,6 @@ use Rattle.c_tree.specs.declared.items.GlobalItem.{GlobalItem}
 use Rattle.c_tree.specs.declared.items.Item.{Item}
 use Rattle.c_tree.specs.declared.items.Item.TheVariants as item
 use Rattle.c_tree.specs.declared.items.StructItem.{StructItem}
-use Rattle.c_tree.specs.declared.items.Unit.{Unit as TextUnit}
 use Rattle.c_tree.specs.declared.limits.LimitKind.TheVariants as limit
 use Rattle.c_tree.specs.declared.types.Star.{Star}
 use Rattle.c_tree.specs.declared.types.TypeName.{TypeName}
@@ -26,21 +24,21 @@ use Rattle.deputy_types.specs.declared.refusal.TypeRefusal.{TypeRefusal}
 use Rattle.deputy_types.specs.declared.refusal.TypeRefusal.TheVariants as refusal
 use Rattle.deputy_types.specs.declared.struct_names.StructNames.{StructNames}
 use Rattle.deputy_types.specs.declared.types.Types.{Types}
-use Rattle.deputy_types.specs.Changes.{shape_of, unions_of}
-use Rattle.deputy_types.specs.Extents.{IsExtent, AreExtents, struct_extent, key_extent, round_up_to}
+use Rattle.deputy_types.specs.Changes.{shape_of}
+use Rattle.deputy_types.specs.Extents.{IsExtent, AreExtents, struct_extent, key_extent}
 use Rattle.deputy_types.specs.Keys.{IsKey}
 use Rattle.deputy_types.specs.MemberTypes.{arm_keys, keys_of, member_keys}
 use Rattle.deputy_types.specs.Options.{and_then}
-use Rattle.deputy_types.specs.StructLayout.{and_ok, or_no_decl, element_count, empty_struct, with_fields_in_turn, laid_out, head_of_struct, struct_siblings, laid_with, struct_laid}
-use Rattle.deputy_types.specs.Table.{Table, element_at, member, member_key, members_of}
+use Rattle.deputy_types.specs.StructLayout.{or_no_decl, element_count, empty_struct, with_fields_in_turn, laid_out, head_of_struct, struct_siblings, laid_with, struct_laid}
+use Rattle.deputy_types.specs.Table.{element_at, member_key}
 use Rattle.deputy_types.specs.Types.{base_key, star_key, stars_key, type_key, element_number}
-use Rattle.deputy_types.specs.UnitLayout.{nothing_declared, is_new_global, first_value, if_declared, global_of, global_declared, with_global_shape, with_global, with_struct, with_taken, with_body, with_function, strings_behind, with_item, with_items, image_end, next_base, with_block, global_block, with_global_block, with_global_blocks, string_block, with_string_block, with_string_blocks, empty_image, image_of, with_laid, no_structs, with_next_struct, with_item_struct, structs_of, table_of, table_behind, table_with, layout}
-use Rattle.deputy_types.proofs.Inversions.{some_then, some_map, if_some, ok_then, ok_declared, if_ok, unless_ok}
+use Rattle.deputy_types.specs.UnitLayout.{nothing_declared, is_new_global, first_value, if_declared, global_of, global_declared, with_global_shape, with_global, with_struct, with_taken, with_body, with_function, strings_behind, with_item, with_items, image_end, next_base, with_block, global_block, with_global_block, with_global_blocks, string_block, with_string_block, with_string_blocks, empty_image, image_of, with_laid, no_structs, with_next_struct, with_item_struct, structs_of, table_of}
+use Rattle.deputy_types.proofs.Inversions.{some_then, some_map, if_some, ok_then, ok_declared, unless_ok}
 use Rattle.deputy_types.proofs.KeyCounts.{star_keys, base_keys}
 use Rattle.light_checks.specs.Within.{AreShapes, IsTable}
 use Rattle.light_checks.proofs.Annotating.{looked_up}
-use Rattle.light_checks.proofs.DeclaredStructs.{key_is, count_small, AreReadableFields, count_members, IsStructWithin, struct_within}
-use Rattle.light_checks.proofs.Ensuring.{some_same, given}
+use Rattle.light_checks.proofs.DeclaredStructs.{key_is, count_small, AreReadableFields, count_members, struct_within}
+use Rattle.light_checks.proofs.Ensuring.{given}
 use Rattle.light_checks.proofs.PrivateTypes.{Laid, Declared, Image, Structs}
 
 pub ok_same : {A : Type 0} (a b : A) → ◌≡◌ {A = Result A TypeRefusal} (Ok a) (Ok b) → a ≡ b
@@ -116,7 +114,7 @@ struct_fine : (types : Types) (d out : Declared) (s : StructItem) → IsFine d �
 unfolding with_struct
 struct_fine types d out s fine r few h =
     let n = ok_then (struct_laid types d.extents (length d.extents) s)
-        (λ laid. Ok (record { extents = d.extents ++ laid.extent ∷ []; taken = d.taken; names = d.names; globals = d.globals; bodies = d.bodies; lines = d.lines })) out h in
+    (λ laid. Ok (record { extents = d.extents ++ laid.extent ∷ []; taken = d.taken; names = d.names; globals = d.globals; bodies = d.bodies; lines = d.lines })) out h in
     let laid = struct_within types d.extents (length d.extents) s n.0 fine.extents r few n.1 in
     let next : Declared = record { extents = d.extents ++ n.0.extent ∷ []; taken = d.taken; names = d.names; globals = d.globals; bodies = d.bodies; lines = d.lines } in
     let is : IsFine next = record { extents = extents-push d.extents n.0.extent fine.extents laid.extent; globals = fine.globals } in
@@ -129,7 +127,7 @@ global_small types d g x h =
     let k = some_then (and_then (type_key types g.declaration.type_name) (if_declared (length d.extents))) (global_of types d g) x c in
     let shape : ℕ → ℕ → ℤ → GlobalShape = λ elem count value. record { line = g.line; elem = elem; count = count; size = (key_extent d.extents k.0).bytes; array = is_some g.declaration.size; value = value } in
     let e = some_then (element_number types.elements k.0)
-        (λ elem. and_then (element_count g.declaration.size) (λ count. option_map (shape elem count) (first_value k.0 g.declaration.size g.value))) x k.2 in
+    (λ elem. and_then (element_count g.declaration.size) (λ count. option_map (shape elem count) (first_value k.0 g.declaration.size g.value))) x k.2 in
     let n = some_then (element_count g.declaration.size) (λ count. option_map (shape e.0 count) (first_value k.0 g.declaration.size g.value)) x e.2 in
     let v = some_map (first_value k.0 g.declaration.size g.value) (shape e.0 n.0) x n.2 in
     subst (λ (y : GlobalShape). y.count ≤ 65536) v.2 (count_small g.declaration.size n.0 n.1)
@@ -138,7 +136,7 @@ global_fine : (types : Types) (d out : Declared) (g : GlobalItem) → IsFine d �
 unfolding with_global with_global_shape
 global_fine types d out g fine h =
     let a = ok_then (or_no_decl g.line (global_declared types d g))
-        (λ x. if nat_le 1024 (length d.globals + length d.lines) then Err (refusal.Limit g.line limit.Globals) else Ok (with_global_shape d g.declaration.name x)) out h in
+    (λ x. if nat_le 1024 (length d.globals + length d.lines) then Err (refusal.Limit g.line limit.Globals) else Ok (with_global_shape d g.declaration.name x)) out h in
     let small = global_small types d g a.0 (ok_declared g.line (global_declared types d g) a.0 a.1) in
     let is : IsFine (with_global_shape d g.declaration.name a.0) = record { extents = fine.extents; globals = All-push IsSmallGlobal d.globals a.0 fine.globals small } in
     by (nat_le 1024 (length d.globals + length d.lines)) (with_global_shape d g.declaration.name a.0) is a.2
@@ -238,7 +236,7 @@ unfolding struct_laid laid_out
 laid_keys types extents number s laid h =
     let u = unless_ok (head_of_struct types number s) (laid_with types extents number s.fields (struct_siblings types s.fields)) laid h in
     let n = ok_then (with_fields_in_turn (record { types = types; extents = extents; number = number; siblings = struct_siblings types s.fields }) empty_struct s.fields)
-        (λ laying. Ok (laid_out types s.fields (struct_siblings types s.fields) laying)) laid u in
+    (λ laying. Ok (laid_out types s.fields (struct_siblings types s.fields) laying)) laid u in
     subst (λ (l : Laid). HasKeys l.names) (ok_same (laid_out types s.fields (struct_siblings types s.fields) n.0) laid n.2) (fields_have_keys types s.fields)
 
 next_fine : (types : Types) (extents : List Extent) (structs out : Structs) (s : StructItem) → AreExtents extents → AreReadableFields s.fields → count_members s.fields ≤ 200000 → AreFine structs

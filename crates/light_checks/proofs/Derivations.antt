@@ -1,5 +1,5 @@
 -- What is derived from short texts has numbers.
-use Rattle.std.proofs.Common.{◌≡◌, ◌≢◌, List, [], Option, Some, None}
+use Rattle.std.proofs.Common.{◌≡◌, ◌≢◌, List, [], Some, None}
 use Rattle.c_tree.specs.declared.expressions.Expr.{Expr}
 use Rattle.c_tree.specs.declared.statements.Action.{Action}
 use Rattle.c_tree.specs.Short.{IsShortExpr}

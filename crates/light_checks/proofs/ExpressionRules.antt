@@ -1,18 +1,17 @@
 -- Every expression of at most 1,000 words derives what weighs no more than its words, and asks for light checks alone.
-use Rattle.std.proofs.Common.{◌≡◌, ℕ, ◌+◌, ◌≤◌, ◌<◌, ◌^◌, Bool, true, false, List, [], ◌∷◌, ◌++◌, length, Option, Some, None, All, refl, sym, ap, ◌∙◌, subst, arith}
+use Rattle.std.proofs.Common.{◌≡◌, ℕ, ◌+◌, ◌≤◌, ◌^◌, List, [], ◌∷◌, ◌++◌, length, All, refl, sym, ◌∙◌, subst, arith}
 use Rattle.std.proofs.lemmas.List.{length-append}
-use Rattle.std.proofs.lemmas.List.Elements.{All-nil, All-cons, All-head, All-tail, All-weaker}
+use Rattle.std.proofs.lemmas.List.Elements.{All-nil, All-cons, All-head, All-tail}
 use Rattle.c_tree.specs.declared.expressions.Expr.{Expr, map-Expr, roll-Expr}
 use Rattle.c_tree.specs.declared.expressions.Expr.TheOpen as E
 use Rattle.c_tree.specs.declared.expressions.Expr.TheFolds.{fold-roll-Expr, ind-Expr}
 use Rattle.c_tree.specs.declared.words.Word.{Word}
 use Rattle.c_tree.specs.declared.words.Word.TheVariants as word
-use Rattle.c_tree.specs.declared.expressions.Binary.{Binary}
 use Rattle.c_tree.specs.declared.signs.Sign.TheVariants as sign
 use Rattle.c_tree.specs.Spelling.{a_sign, a_name, in_parentheses, type_words, binary_sign, unary_sign, expression_words, spelled}
 use Rattle.deputy_types.specs.declared.derived.Derived.{Derived}
 use Rattle.deputy_types.specs.Context.{Context}
-use Rattle.deputy_types.specs.Deriving.{Deriving, bind, pure, lift}
+use Rattle.deputy_types.specs.Deriving.{Deriving, bind, lift}
 use Rattle.deputy_types.specs.Expressions.{level, derive, size_of_type, arrow, subscript}
 use Rattle.deputy_types.specs.Operators.{cast, binary}
 use Rattle.deputy_types.specs.Places.{named, dotted}

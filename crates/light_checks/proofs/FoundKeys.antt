@@ -1,5 +1,5 @@
 -- The types of elements that a text writes count at most 2^42 elements.
-use Rattle.std.proofs.Common.{◌≡◌, ℕ, ◌-◌, ◌^◌, Bool, true, false, nat_lt, List, [], ◌∷◌, ◌++◌, map, length, Option, Some, None, IfSome, if◌then◌else◌, All, refl, sym, ap, ◌∙◌, subst}
+use Rattle.std.proofs.Common.{◌≡◌, ℕ, ◌-◌, ◌^◌, Bool, true, false, nat_lt, List, [], ◌∷◌, ◌++◌, map, length, Option, Some, None, IfSome, if◌then◌else◌, All, refl, sym, ◌∙◌, subst}
 use Rattle.std.specs.List.{list_any}
 use Rattle.std.proofs.lemmas.List.Elements.{All-nil, All-cons, All-push}
 use Rattle.c_tree.specs.declared.expressions.Expr.{Expr, map-Expr, roll-Expr}
@@ -28,7 +28,7 @@ use Rattle.checked_tree.specs.declared.shapes.Scalar.TheVariants as scalar
 use Rattle.deputy_types.specs.declared.element.Element.{Element}
 use Rattle.deputy_types.specs.declared.element.Element.TheVariants as element
 use Rattle.deputy_types.specs.declared.found.Found.{Found}
-use Rattle.deputy_types.specs.Found.{with_element, with_stars, with_types, with_whole_stars, with_whole_type, found_type, found_whole, found_form, found_expr, found_exprs, found_value, found_action, in_turn, where_there, found_body_form, found_stmt_form, found_body, found_stmt, found_stmts, with_params, with_locals, result_key, with_head, with_arms, with_field, with_fields, ended, found_elements, found_function, found_item, found_items, first_found}
+use Rattle.deputy_types.specs.Found.{with_element, with_stars, with_types, with_whole_stars, with_whole_type, found_type, found_whole, found_form, found_expr, found_exprs, found_value, found_action, in_turn, found_body_form, found_stmt_form, found_body, found_stmt, found_stmts, with_params, with_locals, result_key, with_head, with_arms, with_field, with_fields, found_elements, found_function, found_item, found_items, first_found}
 use Rattle.deputy_types.specs.Keys.{IsKey}
 use Rattle.deputy_types.specs.Types.{base_key, star_key, same_element}
 use Rattle.deputy_types.proofs.KeyCounts.{star_keys, base_keys}
@@ -163,6 +163,7 @@ module _ (structs : List (List ℕ)) where
     where
       by_body : (x : Body-F KeptBody KeptStmt) → Keeps (found_body structs (roll-Body (map-Body KeptBody KeptStmt Body Stmt (λ k. k.0) (λ k. k.0) x)))
       by_body x = subst (λ (p : Found → Found). Keeps p) (sym (body_at (map-Body KeptBody KeptStmt Body Stmt (λ k. k.0) (λ k. k.0) x))) (body_form_keeps x)
+
       by_stmt : (x : Stmt-F KeptBody KeptStmt) → Keeps (found_stmt structs (roll-Stmt (map-Stmt KeptBody KeptStmt Body Stmt (λ k. k.0) (λ k. k.0) x)))
       by_stmt x = subst (λ (p : Found → Found). Keeps p) (sym (stmt_at (map-Stmt KeptBody KeptStmt Body Stmt (λ k. k.0) (λ k. k.0) x))) (stmt_form_keeps x)
 

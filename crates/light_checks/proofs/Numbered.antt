@@ -1,11 +1,10 @@
 -- Light checks are numbered, whatever stands before them.
-use Rattle.std.proofs.Common.{◌≡◌, ◌≢◌, ℕ, ◌+◌, ◌<◌, ◌≤◌, ◌^◌, Bool, true, false, ◌&&◌, nat_lt, List, [], ◌∷◌, Option, Some, None, option_map, ℤ, ◌*ℤ◌, neg_ℤ, unsigned_abs, if◌then◌else◌, All, refl, sym, ap, ◌∙◌, subst, arith}
+use Rattle.std.proofs.Common.{◌≡◌, ◌≢◌, ℕ, ◌+◌, ◌<◌, ◌^◌, Bool, true, false, ◌&&◌, nat_lt, List, [], ◌∷◌, Option, Some, None, option_map, ℤ, ◌*ℤ◌, unsigned_abs, if◌then◌else◌, All, refl, ap, ◌∙◌, arith}
 use Rattle.std.proofs.lemmas.Bool.{lt-ltb}
 use Rattle.std.proofs.lemmas.Int.{ints}
 use Rattle.std.proofs.lemmas.List.Elements.{All-head, All-tail}
-use Rattle.dep_expr.specs.Linear.{LinearForm, plus, number_form, term_form}
+use Rattle.dep_expr.specs.Linear.{plus, number_form, term_form}
 use Rattle.dep_expr.specs.Merged.{merged}
-use Rattle.checked_tree.specs.declared.checks.Cond.{Cond}
 use Rattle.checked_tree.specs.declared.expressions.CheckedExpr.{CheckedExpr}
 use Rattle.checked_tree.specs.declared.sums.Part.{Part}
 use Rattle.checked_tree.specs.declared.sums.Part.TheVariants.{Constant, Atom}
@@ -15,7 +14,7 @@ use Rattle.deputy_types.specs.declared.asked.AskedCond.{AskedCond}
 use Rattle.deputy_types.specs.declared.asked.AskedCond.TheVariants as asked
 use Rattle.deputy_types.specs.Numbering.{Forming, unformed, if_light, with_number, with_term, with_atom, number_of, signed, with_part, with_parts, difference, whole, single, at_most, guarded, aligned, non_zero, equal, term, kept, conditioned, Numbered, with_check, numbered}
 use Rattle.deputy_types.specs.Options.{and_then}
-use Rattle.light_checks.specs.Lightness.{part_factor, part_constant, factors, constants, AreLight, IsLight, IsLightPart, IsLightNew, IsLightCond, IsLightCheck}
+use Rattle.light_checks.specs.Lightness.{part_factor, part_constant, factors, constants, IsLight, IsLightPart, IsLightNew, IsLightCond, IsLightCheck}
 
 -- what is there
 abbrev Is : {A : Type 0} → Option A → Type 0
@@ -92,10 +91,11 @@ difference_is left right atoms l r =
     let one = parts_formed false left.parts unformed atoms (omega arith) (omega arith) in
     let a = one.coefficients_are in
     let b = one.constants_are in
-    let two = parts_formed true right.parts one.form one.atoms (omega arith) (omega arith) in
-    ((merged two.form.form, two.atoms),
+    let two = parts_formed true right.parts one.form one.atoms (omega arith) (omega arith) in (
+      (merged two.form.form, two.atoms),
       ap (λ o. and_then o (λ l. and_then (with_parts true right.parts l.0 l.1) (λ r. Some (merged r.0.form, r.1)))) one.is
-      ∙ ap (λ o. and_then o (λ r. Some (merged r.0.form, r.1))) two.is)
+          ∙ ap (λ o. and_then o (λ r. Some (merged r.0.form, r.1))) two.is,
+    )
 
 whole_is : (s : Sum) (atoms : List CheckedExpr) → IsLight s → Is (whole s atoms)
 unfolding whole

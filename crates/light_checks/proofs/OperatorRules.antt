@@ -1,5 +1,5 @@
 -- The rules of operators and constants: what each derives weighs at most one word more, and its checks are light.
-use Rattle.std.proofs.Common.{◌≡◌, ℕ, ◌+◌, ◌-◌, ◌*◌, ◌%◌, ◌≤◌, ◌<◌, ◌^◌, Bool, true, false, nat_lt, List, [], ◌∷◌, Option, Some, None, option_map, ℤ, pos, negsuc, ◌-ℤ◌, neg_ℤ, unsigned_abs, if◌then◌else◌, refl, sym, ap, ◌∙◌, subst, arith}
+use Rattle.std.proofs.Common.{◌≡◌, ℕ, ◌+◌, ◌≤◌, ◌^◌, Bool, true, false, nat_lt, List, [], ◌∷◌, Some, None, ℤ, pos, negsuc, ◌-ℤ◌, neg_ℤ, unsigned_abs, if◌then◌else◌, refl, subst, arith}
 use Rattle.std.proofs.lemmas.Int.{ints}
 use Rattle.sd_base.specs.declared.kinds.CheckKind.TheVariants as kind
 use Rattle.c_tree.specs.declared.expressions.Binary.{Binary}
@@ -9,20 +9,17 @@ use Rattle.c_tree.specs.declared.types.Number.{Number}
 use Rattle.c_tree.specs.declared.types.Star.{Star}
 use Rattle.c_tree.specs.declared.types.TypeName.{TypeName}
 use Rattle.checked_tree.specs.declared.expressions.Arithmetic.{Arithmetic}
-use Rattle.checked_tree.specs.declared.expressions.Arithmetic.TheVariants as arithmetic_op
 use Rattle.checked_tree.specs.declared.expressions.CheckedExpr.{CheckedExpr}
 use Rattle.checked_tree.specs.declared.expressions.CheckedExpr.TheVariants as form
-use Rattle.checked_tree.specs.declared.expressions.Comparison.{Comparison}
 use Rattle.checked_tree.specs.declared.expressions.PointerSum.{PointerSum}
 use Rattle.checked_tree.specs.declared.expressions.PointerSum.TheVariants as pointer_sum
 use Rattle.checked_tree.specs.declared.expressions.Unary as checked
 use Rattle.checked_tree.specs.declared.expressions.Unary.TheVariants as checked_unary
 use Rattle.checked_tree.specs.declared.shapes.Scalar.{Scalar}
 use Rattle.checked_tree.specs.declared.shapes.Scalar.TheVariants as scalar
-use Rattle.checked_tree.specs.Numbers.{low_bits, signed, converted}
+use Rattle.checked_tree.specs.Numbers.{low_bits, converted}
 use Rattle.deputy_types.specs.declared.asked.AskedCond.TheVariants as cond
 use Rattle.deputy_types.specs.declared.derived.Derived.{Derived}
-use Rattle.deputy_types.specs.declared.derived.Derived.TheVariants as derived
 use Rattle.deputy_types.specs.declared.derived.Pointed.{Pointed}
 use Rattle.deputy_types.specs.declared.derived.Value.{Value}
 use Rattle.deputy_types.specs.declared.derived.Value.TheVariants as value
@@ -33,12 +30,10 @@ use Rattle.deputy_types.specs.declared.element.Element.{Element}
 use Rattle.deputy_types.specs.declared.families.Family.{Family}
 use Rattle.deputy_types.specs.declared.families.Family.TheVariants as family
 use Rattle.deputy_types.specs.Context.{Context}
-use Rattle.deputy_types.specs.Deriving.{Deriving, bind, pure, none, lift, ask}
 use Rattle.deputy_types.specs.Expressions.{size_of_type, arrow, subscript}
 use Rattle.deputy_types.specs.Extents.{key_extent, stars_extent}
-use Rattle.deputy_types.specs.Operators.{constant_of_type, computed, number, character, size_constant, on_one, negative_number, negative_by, negative, negation, not_by, minus, on_integer, not_of, dereferenced, unary, integer_type, cast_to, cast_by, cast, family_of, on_two, shifted, divided, integers_compared, addresses_compared, joined, on_integers, pointer_plus, moved_unless_text, compared_with_zero, zero_compared, on_pointer_and_integer, on_integer_and_pointer, alike, pointers_compared, on_pointers, pointer_and_null, null_and_pointer, on_null, on_values, binary}
-use Rattle.deputy_types.specs.Places.{followed, dotted}
-use Rattle.deputy_types.specs.Pointers.{is_written, address_of, moved, text_sum, indexed_by}
+use Rattle.deputy_types.specs.Operators.{constant_of_type, computed, number, character, size_constant, on_one, negative_by, negative, negation, not_by, minus, on_integer, not_of, dereferenced, unary, integer_type, cast_to, cast_by, cast, family_of, divided, addresses_compared, joined, on_integers, pointer_plus, moved_unless_text, compared_with_zero, zero_compared, on_pointer_and_integer, on_integer_and_pointer, alike, on_pointers, pointer_and_null, null_and_pointer, on_null, on_values, binary}
+use Rattle.deputy_types.specs.Pointers.{is_written, address_of}
 use Rattle.deputy_types.specs.Sums.{constant_of, side}
 use Rattle.deputy_types.specs.Table.{size}
 use Rattle.deputy_types.specs.Types.{base_key, are_constant, is_char}
@@ -46,10 +41,10 @@ use Rattle.deputy_types.specs.Values.{value_of, pointer_of, integer_of}
 use Rattle.deputy_types.proofs.Inversions.{some_then, some_map, if_some}
 use Rattle.light_checks.specs.Weights.{IsWhole, IsPointed, IsValue, IsDerived}
 use Rattle.light_checks.specs.Within.{IsContext}
-use Rattle.light_checks.proofs.Ensuring.{Ensures, Any, some_same, given, then_ensures, pure_ensures, none_ensures, lift_ensures, ask_ensures, if_ensures, weaker}
+use Rattle.light_checks.proofs.Ensuring.{Ensures, Any, given, then_ensures, pure_ensures, none_ensures, lift_ensures, ask_ensures, if_ensures}
 use Rattle.light_checks.proofs.Weighing.{side_small, small_light}
 use Rattle.light_checks.proofs.Reading.{value_is, integer_is, pointer_is}
-use Rattle.light_checks.proofs.PlaceRules.{followed_is, dotted_is, moved_is, text_sum_is, indexed_by_is, address_is, derived_more}
+use Rattle.light_checks.proofs.PlaceRules.{followed_is, dotted_is, moved_is, text_sum_is, indexed_by_is, address_is}
 
 -- ---- a number that is converted
 low_8 : (z : ℤ) → low_bits 8 z ≤ 2 ^ 8

@@ -1,9 +1,7 @@
 -- The rules of places and pointers: what each derives weighs at most one word more, and its checks are light.
-use Rattle.std.proofs.Common.{◌≡◌, ℕ, ◌+◌, ◌≤◌, ◌^◌, Bool, true, false, not, List, [], ◌∷◌, ◌++◌, Option, Some, None, option_map, ℤ, pos, neg_ℤ, unsigned_abs, slice_get, if◌then◌else◌, All, refl, sym, ap, ◌∙◌, subst, arith}
+use Rattle.std.proofs.Common.{◌≡◌, ℕ, ◌+◌, ◌≤◌, ◌^◌, Bool, true, false, not, List, Option, Some, None, option_map, pos, unsigned_abs, slice_get, if◌then◌else◌, subst, arith}
 use Rattle.std.proofs.lemmas.Int.{ints}
 use Rattle.sd_base.specs.declared.kinds.CheckKind.TheVariants as kind
-use Rattle.checked_tree.specs.declared.expressions.CheckedExpr.{CheckedExpr}
-use Rattle.checked_tree.specs.declared.expressions.CheckedExpr.TheVariants as form
 use Rattle.checked_tree.specs.declared.expressions.PointerSum.{PointerSum}
 use Rattle.checked_tree.specs.declared.expressions.PointerSum.TheVariants as pointer_sum
 use Rattle.checked_tree.specs.declared.shapes.Member.{Member}
@@ -22,22 +20,20 @@ use Rattle.deputy_types.specs.declared.derived.UnionPlace.{UnionPlace}
 use Rattle.deputy_types.specs.declared.derived.Value.TheVariants as value
 use Rattle.deputy_types.specs.declared.derived.Whole.{Whole}
 use Rattle.deputy_types.specs.declared.element.Element.{Element}
-use Rattle.deputy_types.specs.declared.element.Element.TheVariants as key
 use Rattle.deputy_types.specs.declared.table.GlobalPlace.{GlobalPlace}
 use Rattle.deputy_types.specs.Context.{Context, slot_shape}
-use Rattle.deputy_types.specs.Deriving.{Deriving, bind, pure, none, lift, ask}
 use Rattle.deputy_types.specs.Keys.{IsKey}
 use Rattle.deputy_types.specs.Options.{and_then}
-use Rattle.deputy_types.specs.Places.{block_place, global_place, local_of, named_by, named, not_null_by, not_null, through, through_text, followed, is_unsigned, not_below, not_above, moved_sum, index_checks, indexed_at, indexed, struct_of, plain_member, array_member, member_at, member_place, union_place, part_by, part_of, found_with, found_in, found_member, found_arm, arm_at, arm_place, dotted}
-use Rattle.deputy_types.specs.Pointers.{pointer, string_at, string, addressed_member, addressed, address_at, address_of_place, address_of, has_address, step_size, may_fall, may_rise, move_checks, moved_to, moved, is_written, not_ended, text_checks, text_to, text_moved, text_stepped, text_sum, text_second, text_indexed, indexed_by}
+use Rattle.deputy_types.specs.Places.{block_place, global_place, named_by, named, not_null_by, not_null, through, through_text, followed, is_unsigned, not_below, not_above, moved_sum, index_checks, indexed, struct_of, plain_member, array_member, member_at, member_place, union_place, part_by, part_of, found_with, found_in, found_member, found_arm, arm_at, arm_place, dotted}
+use Rattle.deputy_types.specs.Pointers.{string_at, string, addressed_member, addressed, address_at, address_of_place, address_of, has_address, step_size, may_fall, may_rise, move_checks, moved, is_written, not_ended, text_checks, text_moved, text_stepped, text_sum, text_second, text_indexed, indexed_by}
 use Rattle.deputy_types.specs.Sums.{constant, beyond}
-use Rattle.deputy_types.specs.Table.{element_at, field, union_of, arm, global, literal, member, member_key, member_shape, union_shape, is_array}
-use Rattle.deputy_types.specs.Values.{size_of, loaded_as, member_part}
+use Rattle.deputy_types.specs.Table.{element_at, field, union_of, arm, global, literal, member, member_key, union_shape, is_array}
+use Rattle.deputy_types.specs.Values.{size_of, member_part}
 use Rattle.deputy_types.proofs.Inversions.{some_then, some_map, if_some}
-use Rattle.light_checks.specs.Lightness.{IsLight, IsLightPart}
-use Rattle.light_checks.specs.Weights.{IsAddress, IsBound, IsWhole, IsPointed, IsSource, IsPlace, IsArray, IsDerived}
-use Rattle.light_checks.specs.Within.{IsTable, IsContext}
-use Rattle.light_checks.proofs.Ensuring.{Ensures, Any, some_same, given, then_ensures, pure_ensures, none_ensures, lift_ensures, ask_ensures, if_ensures, weaker}
+use Rattle.light_checks.specs.Lightness.{IsLight}
+use Rattle.light_checks.specs.Weights.{IsAddress, IsWhole, IsPointed, IsSource, IsPlace, IsDerived}
+use Rattle.light_checks.specs.Within.{IsContext}
+use Rattle.light_checks.proofs.Ensuring.{Ensures, Any, given, then_ensures, pure_ensures, none_ensures, lift_ensures, ask_ensures, if_ensures, weaker}
 use Rattle.light_checks.proofs.Weighing.{address_light, bound_light, address_bound, address_more, bound_more, beyond_address, beyond_bound, constant_address, moved_address}
 
 module _ (ctx : Context) (is : IsContext ctx) where
@@ -157,7 +153,7 @@ module _ (ctx : Context) (is : IsContext ctx) where
         then_ensures _ _ Any (IsDerived n) (not_null_is p k)
         (λ a any. then_ensures _ _ Any (IsDerived n)
         (ask_ensures ctx kind.Bound (cond.Le (beyond p.at (pos (size_of ctx p.elem))) p.high)
-            (address_light (n + 1) (beyond p.at (pos (size_of ctx p.elem))) (omega arith) (beyond_address n p.at (pos (size_of ctx p.elem)) k.at (is.table.sizes p.elem)), bound_light n p.high (omega arith) k.high))
+        (address_light (n + 1) (beyond p.at (pos (size_of ctx p.elem))) (omega arith) (beyond_address n p.at (pos (size_of ctx p.elem)) k.at (is.table.sizes p.elem)), bound_light n p.high (omega arith) k.high))
         (λ b any. pure_ensures _ (IsDerived n) (record { at = k.at; source = k.elem })))
 
     pub through_text_is : (p : Pointed) → IsPointed n p → Ensures (through_text ctx p) (IsDerived n)

@@ -1,5 +1,4 @@
 -- The types that the layout of a text passes on, by the definitions that make them.
-use Rattle.std.proofs.Common.{ℕ, List}
 use Rattle.deputy_types.specs.StructLayout.{empty_struct, with_union_of, laid_out}
 use Rattle.deputy_types.specs.UnitLayout.{nothing_declared, empty_image, no_structs}
 

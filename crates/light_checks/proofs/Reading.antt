@@ -1,7 +1,7 @@
 -- The value of what was derived weighs no more than that.
-use Rattle.std.proofs.Common.{◌≡◌, ℕ, zero, suc, ◌+◌, ◌≤◌, ◌^◌, Bool, true, false, List, [], ◌∷◌, map, Option, Some, None, option_map, ℤ, pos, negsuc, neg_ℤ, ◌*ℤ◌, int_le, unsigned_abs, slice_get, All, IsTrue, refl, sym, ap, ◌∙◌, subst, arith}
+use Rattle.std.proofs.Common.{◌≡◌, ℕ, zero, suc, ◌+◌, ◌≤◌, ◌^◌, Bool, true, false, List, map, Option, Some, None, option_map, ℤ, pos, negsuc, neg_ℤ, ◌*ℤ◌, int_le, unsigned_abs, slice_get, ap, ◌∙◌, subst, arith}
 use Rattle.std.specs.Option.{option_flatten}
-use Rattle.std.proofs.lemmas.Bool.{and_parts, leb-true, ltb-true, ltb-false, not-true}
+use Rattle.std.proofs.lemmas.Bool.{and_parts}
 use Rattle.std.proofs.lemmas.Int.{ints, unsigned_abs-mul}
 use Rattle.std.proofs.lemmas.Nat.{mul-le}
 use Rattle.std.proofs.lemmas.Option.{slice_get-map}
@@ -14,14 +14,12 @@ use Rattle.checked_tree.specs.declared.shapes.Scalar.{Scalar}
 use Rattle.checked_tree.specs.declared.shapes.Scalar.TheVariants as scalar
 use Rattle.checked_tree.specs.declared.shapes.Shape.{Shape}
 use Rattle.checked_tree.specs.declared.shapes.Shape.TheVariants as shape
-use Rattle.checked_tree.specs.declared.sums.Part.{Part}
-use Rattle.checked_tree.specs.declared.sums.Part.TheVariants.{Constant, Atom}
+use Rattle.checked_tree.specs.declared.sums.Part.TheVariants.{Constant}
 use Rattle.checked_tree.specs.declared.sums.Sum.{Sum}
 use Rattle.checked_tree.specs.Numbers.{is_between}
 use Rattle.c_tree.specs.Slots.{hidden_slot}
 use Rattle.deputy_types.specs.declared.derived.Derived.{Derived}
 use Rattle.deputy_types.specs.declared.derived.Derived.TheVariants as derived
-use Rattle.deputy_types.specs.declared.derived.Place.{Place}
 use Rattle.deputy_types.specs.declared.derived.Pointed.{Pointed}
 use Rattle.deputy_types.specs.declared.derived.Source.{Source}
 use Rattle.deputy_types.specs.declared.derived.Source.TheVariants as source
@@ -38,8 +36,8 @@ use Rattle.deputy_types.specs.Sums.{atom, with_part}
 use Rattle.deputy_types.specs.Table.{element_at, member, members_of}
 use Rattle.deputy_types.specs.Values.{size_of, slot_sum, integer, pointer_to, bounded_pointer, hidden_pointer, of_slots, of_struct, local_pointer, slot_value, local_value, counted_pointer, text_pointer, element_value, container, member_value, source_value, array_value, value_of, whole, pointed, integer_of, pointer_of, is_nullterm, low_sum, high_sum, address}
 use Rattle.deputy_types.proofs.Inversions.{some_then, some_map}
-use Rattle.light_checks.specs.Weights.{IsAddress, IsBound, IsWhole, IsPointed, IsValue, IsSource, IsPlace, IsArray, IsDerived}
-use Rattle.light_checks.specs.Within.{IsBounds, IsShape, AreShapes, shape_at, IsTable, IsContext}
+use Rattle.light_checks.specs.Weights.{IsBound, IsWhole, IsPointed, IsValue, IsSource, IsDerived}
+use Rattle.light_checks.specs.Within.{IsBounds, IsShape, AreShapes, shape_at, IsContext}
 use Rattle.light_checks.proofs.Weighing.{atom_address, address_bound, with_part_bound}
 use Rattle.light_checks.proofs.Ensuring.{given}
 use Rattle.light_checks.proofs.Annotating.{looked_up, AreNames, slot_names, member_names, low_bound, high_bound}

@@ -1,20 +1,17 @@
 -- In a short unit a statement or a condition is refused at its line only where no rule derives it.
-use Rattle.std.proofs.Common.{◌≡◌, ◌≢◌, ℕ, List, [], Option, Some, None, Result, Ok, Err, refl, sym, ap, ◌∙◌, subst}
+use Rattle.std.proofs.Common.{◌≡◌, ◌≢◌, ℕ, List, [], Option, Some, None, Err, refl}
 use Rattle.c_tree.specs.declared.expressions.Expr.{Expr}
 use Rattle.c_tree.specs.declared.items.Function.{Function}
 use Rattle.c_tree.specs.declared.items.Unit.{Unit as TextUnit}
-use Rattle.c_tree.specs.declared.statements.Action.{Action}
 use Rattle.c_tree.specs.declared.statements.Simple.{Simple}
 use Rattle.c_tree.specs.Short.{IsShortExpr}
-use Rattle.checked_tree.specs.declared.expressions.CheckedExpr.{CheckedExpr}
-use Rattle.checked_tree.specs.declared.statements.CheckedStmt.{CheckedStmt}
 use Rattle.deputy_types.specs.declared.asked.Asked.{Asked}
 use Rattle.deputy_types.specs.declared.signature.Returned.{Returned}
-use Rattle.deputy_types.specs.Checking.{Fault, NoRule}
+use Rattle.deputy_types.specs.Checking.{Fault}
 use Rattle.deputy_types.specs.Context.{Context}
 use Rattle.deputy_types.specs.Functions.{context_of}
 use Rattle.deputy_types.specs.Numbering.{Numbered, numbered}
-use Rattle.deputy_types.specs.Statements.{Home, act, controlling, statement_context, with_numbers, numbered_at, simple, condition}
+use Rattle.deputy_types.specs.Statements.{act, controlling, statement_context, with_numbers, numbered_at, simple, condition}
 use Rattle.deputy_types.specs.Table.{Table}
 use Rattle.light_checks.specs.ShortActions.{HasShortParts}
 use Rattle.light_checks.specs.ShortUnits.{IsFunctionOf, home_of}

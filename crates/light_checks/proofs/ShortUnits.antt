@@ -1,9 +1,8 @@
 -- A short unit: its types are readable, its table is within the bounds, and so is each function whose declarations stand.
-use Rattle.std.proofs.Common.{◌≡◌, ℕ, ◌+◌, ◌≤◌, Bool, true, false, List, [], ◌∷◌, ◌++◌, map, length, flat_map, Option, Some, None, option_map, Result, Ok, slice_get, slice_index_or, suc, All, Contains, refl, sym, ap, ◌∙◌, subst, append-nil, append_assoc, arith}
+use Rattle.std.proofs.Common.{◌≡◌, ℕ, ◌+◌, ◌≤◌, true, List, [], ◌∷◌, ◌++◌, length, flat_map, Option, Some, Ok, slice_index_or, suc, All, Contains, refl, sym, subst, append_assoc, arith}
 use Rattle.std.proofs.lemmas.List.{length-append}
-use Rattle.std.proofs.lemmas.List.Elements.{All-nil, All-cons, All-head, All-tail, All-map, All-weaker, All-contains}
+use Rattle.std.proofs.lemmas.List.Elements.{All-nil, All-cons, All-head, All-tail, All-map, All-weaker}
 use Rattle.c_tree.specs.declared.items.Arm.{Arm}
-use Rattle.c_tree.specs.declared.items.Declaration.{Declaration}
 use Rattle.c_tree.specs.declared.items.Field.{Field}
 use Rattle.c_tree.specs.declared.items.Field.TheVariants as field
 use Rattle.c_tree.specs.declared.items.Function.{Function}
@@ -18,18 +17,15 @@ use Rattle.c_tree.specs.declared.items.StructItem.{StructItem}
 use Rattle.c_tree.specs.declared.items.Unit.{Unit as TextUnit}
 use Rattle.c_tree.specs.declared.keywords.Keyword.TheVariants as keyword
 use Rattle.c_tree.specs.declared.signs.Sign.TheVariants as sign
-use Rattle.c_tree.specs.declared.types.Base.{Base}
 use Rattle.c_tree.specs.declared.types.Star.{Star}
 use Rattle.c_tree.specs.declared.words.Word.{Word}
 use Rattle.c_tree.specs.Short.{IsWritten}
 use Rattle.c_tree.specs.ShortUnit.{IsShort, IsShortFunction, IsShortUnit}
-use Rattle.c_tree.specs.Spelling.{a_sign, a_keyword, a_name, in_parentheses, base_words, stars_words, type_words}
+use Rattle.c_tree.specs.Spelling.{a_sign, a_keyword, a_name, in_parentheses, stars_words, type_words}
 use Rattle.c_tree.specs.StatementSpelling.{statement_words, statement_pieces}
-use Rattle.c_tree.specs.UnitSpelling.{const_words, size_words, declaration_words, arm_words, field_words, struct_words, static_words, result_words, param_words, more_params_words, params_words, written_void_words, head_words, local_words, written_statements, function_words, item_words, field_pieces, function_pieces, item_pieces}
+use Rattle.c_tree.specs.UnitSpelling.{const_words, size_words, declaration_words, arm_words, field_words, struct_words, static_words, result_words, param_words, more_params_words, params_words, written_void_words, head_words, local_words, written_statements, item_words, field_pieces, item_pieces}
 use Rattle.c_tree.proofs.ShortParts.{short_both, short_front, short_back, short_each, short_piece, function_short}
 use Rattle.checked_tree.specs.declared.shapes.Shape.{Shape}
-use Rattle.checked_tree.specs.declared.shapes.Shape.TheVariants as shape
-use Rattle.deputy_types.specs.declared.refusal.TypeRefusal.{TypeRefusal}
 use Rattle.deputy_types.specs.declared.element.Element.{Element}
 use Rattle.deputy_types.specs.declared.found.Found.{Found}
 use Rattle.deputy_types.specs.declared.sibling.Role.TheVariants as role
@@ -38,29 +34,26 @@ use Rattle.deputy_types.specs.declared.signature.Returned.{Returned}
 use Rattle.deputy_types.specs.declared.signature.Returned.TheVariants as returned
 use Rattle.deputy_types.specs.declared.signature.Signature.{Signature}
 use Rattle.deputy_types.specs.declared.types.Types.{Types}
-use Rattle.deputy_types.specs.Context.{Context}
 use Rattle.deputy_types.specs.Declarations.{typed_shape}
 use Rattle.deputy_types.specs.Extents.{key_extent}
 use Rattle.deputy_types.specs.Found.{first_found, found_items, struct_names}
 use Rattle.deputy_types.specs.Functions.{functions_of, text_of, context_of}
-use Rattle.deputy_types.specs.Heads.{Text, signature_of, parameter_shapes, slot_shapes, value_shape, value_result, base_result, result_by, result_of}
+use Rattle.deputy_types.specs.Heads.{signature_of, parameter_shapes, value_shape, value_result, result_by, result_of}
 use Rattle.deputy_types.specs.Options.{and_then}
 use Rattle.deputy_types.specs.Siblings.{no_siblings, role_of}
-use Rattle.deputy_types.specs.Statements.{Home}
 use Rattle.deputy_types.specs.Table.{Table}
 use Rattle.deputy_types.specs.StructLayout.{and_ok}
 use Rattle.deputy_types.specs.UnitLayout.{nothing_declared, with_items, no_structs, image_of, structs_of, table_of, table_behind, table_with, layout}
 use Rattle.deputy_types.proofs.Inversions.{some_then, some_map, ok_then}
-use Rattle.light_checks.specs.Within.{is_integer, shape_at, IsShape, AreShapes, IsTable, IsContext, IsResult, IsHome}
+use Rattle.light_checks.specs.Within.{is_integer, shape_at, AreShapes, IsTable, IsContext, IsResult, IsHome}
 use Rattle.light_checks.specs.Words.{IsSmallWord, IsReadable}
 use Rattle.light_checks.proofs.DeclaredSides.{IsRoledShape, shape_roled}
 use Rattle.light_checks.proofs.DeclaredSlots.{HasReadable, slots_are, parameters_are, roled_shape_is, value_roled}
 use Rattle.light_checks.proofs.DeclaredStructs.{AreReadableArms, IsReadableField, AreReadableFields, members_in, count_members}
-use Rattle.light_checks.proofs.DeclaredUnits.{ok_same, IsFine, nothing_fine, AreFine, no_structs_fine, IsReadableItem, AreReadableItems, items_fine, image_within, structs_fine, table_is}
-use Rattle.light_checks.proofs.Ensuring.{some_same, given}
+use Rattle.light_checks.proofs.DeclaredUnits.{ok_same, nothing_fine, no_structs_fine, IsReadableItem, AreReadableItems, items_fine, image_within, structs_fine, table_is}
+use Rattle.light_checks.proofs.Ensuring.{given}
 use Rattle.light_checks.proofs.ExpressionRules.{both_readable}
 use Rattle.light_checks.proofs.FoundKeys.{found_keys}
-use Rattle.light_checks.proofs.PrivateTypes.{Declared, Image, Structs}
 use Rattle.light_checks.proofs.ShortWords.{written_small}
 use Rattle.light_checks.specs.Standing.{Stands}
 

@@ -1,19 +1,17 @@
 -- The words of a short text are small: a number is below 2^32, and a character is a byte.
-use Rattle.std.proofs.Common.{◌≡◌, ℕ, ◌+◌, ◌≤◌, ◌<◌, ◌^◌, Bool, true, false, not, cond, ◌&&◌, ◌||◌, ◌==◌, nat_le, nat_lt, List, [], ◌∷◌, ◌++◌, length, Option, Some, None, All, refl, sym, ap, ◌∙◌, subst, arith}
-use Rattle.std.proofs.lemmas.Bool.{and_parts, or_cases, eqb-true, leb-true}
+use Rattle.std.proofs.Common.{◌≡◌, ℕ, ◌≤◌, ◌<◌, ◌^◌, Bool, true, false, not, cond, ◌&&◌, ◌||◌, ◌==◌, nat_le, [], ◌∷◌, Option, Some, None, refl, sym, subst, arith}
+use Rattle.std.proofs.lemmas.Bool.{and_parts, eqb-true, leb-true}
 use Rattle.std.proofs.lemmas.List.Elements.{All-weaker}
 use Rattle.c_tree.specs.declared.expressions.Expr.{Expr}
 use Rattle.c_tree.specs.declared.keywords.Keyword.{Keyword}
 use Rattle.c_tree.specs.declared.words.Suffix.{Suffix}
 use Rattle.c_tree.specs.declared.words.Suffix.TheVariants as suffix
 use Rattle.c_tree.specs.declared.words.Word.{Word}
-use Rattle.c_tree.specs.declared.words.Word.TheVariants as word
 use Rattle.c_tree.specs.Bytes.{Text, is_digit, first_is}
 use Rattle.c_tree.specs.Characters.{is_plain, is_escape, escaped, is_quotable, meaning}
 use Rattle.c_tree.specs.Names.{named, reserved}
 use Rattle.c_tree.specs.Numbers.{IsNumber, decimal, octal, hexadecimal, decimal_end}
 use Rattle.c_tree.specs.Short.{IsWritten, IsShortExpr}
-use Rattle.c_tree.specs.ShortUnit.{IsShort}
 use Rattle.c_tree.specs.Spelling.{spelled}
 use Rattle.c_tree.specs.Words.{WordAt, a_name, a_number, a_character, a_string, a_sign}
 use Rattle.light_checks.specs.Words.{IsSmallWord, IsReadable}

@@ -1,5 +1,5 @@
 -- Every simple statement and condition of a short text asks for light checks alone.
-use Rattle.std.proofs.Common.{◌≡◌, ℕ, ◌≤◌, ◌^◌, List, [], ◌∷◌, Option, Some, None, All, refl, sym, ap, ◌∙◌, subst, arith}
+use Rattle.std.proofs.Common.{◌≡◌, List, [], Option, Some, None, All}
 use Rattle.std.proofs.lemmas.List.Elements.{All-nil, All-weaker}
 use Rattle.c_tree.specs.declared.expressions.Expr.{Expr}
 use Rattle.c_tree.specs.declared.statements.Action.{Action}
@@ -7,19 +7,16 @@ use Rattle.c_tree.specs.declared.statements.Action.TheVariants as action
 use Rattle.c_tree.specs.Short.{IsShortExpr}
 use Rattle.c_tree.specs.Spelling.{spelled}
 use Rattle.light_checks.specs.ShortActions.{HasShortParts}
-use Rattle.checked_tree.specs.declared.expressions.CheckedExpr.{CheckedExpr}
 use Rattle.checked_tree.specs.declared.shapes.Shape.{Shape}
-use Rattle.checked_tree.specs.declared.statements.CheckedStmt.{CheckedStmt}
 use Rattle.deputy_types.specs.declared.asked.Asked.{Asked}
 use Rattle.deputy_types.specs.declared.derived.Derived.{Derived}
 use Rattle.deputy_types.specs.declared.derived.Derived.TheVariants as derived
-use Rattle.deputy_types.specs.declared.handed.Passed.{Passed}
 use Rattle.deputy_types.specs.declared.signature.Returned.{Returned}
 use Rattle.deputy_types.specs.declared.signature.Returned.TheVariants as returned
-use Rattle.deputy_types.specs.Calls.{pass, coerce_value}
+use Rattle.deputy_types.specs.Calls.{pass}
 use Rattle.deputy_types.specs.Context.{Context}
-use Rattle.deputy_types.specs.Deriving.{Deriving, bind, pure, none, lift}
-use Rattle.deputy_types.specs.Expressions.{derive, expression, form_of}
+use Rattle.deputy_types.specs.Deriving.{Deriving}
+use Rattle.deputy_types.specs.Expressions.{expression, form_of}
 use Rattle.deputy_types.specs.Options.{and_then}
 use Rattle.deputy_types.specs.Statements.{Home, zero_of, zero, return_value, return_from, act, test_form, controlling}
 use Rattle.deputy_types.specs.Table.{union_shape}
@@ -28,7 +25,7 @@ use Rattle.light_checks.specs.Lightness.{IsLightCheck}
 use Rattle.light_checks.specs.Weights.{IsDerived}
 use Rattle.light_checks.specs.Within.{IsShape, IsContext, IsResult, IsHome}
 use Rattle.light_checks.specs.Words.{IsReadable}
-use Rattle.light_checks.proofs.Ensuring.{Ensures, Any, then_ensures, pure_ensures, none_ensures, lift_ensures, weaker}
+use Rattle.light_checks.proofs.Ensuring.{Ensures, Any, then_ensures, pure_ensures, none_ensures, lift_ensures}
 use Rattle.light_checks.proofs.Annotating.{slot_names}
 use Rattle.light_checks.proofs.AssignmentRules.{derive_short, assign_is}
 use Rattle.light_checks.proofs.CallRules.{IsPassed, pass_is, value_coerced, call_is, kalloc_is, kfree_is}

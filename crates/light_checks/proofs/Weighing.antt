@@ -1,18 +1,15 @@
 -- How far sums weigh.
-use Rattle.std.proofs.Common.{◌≡◌, ℕ, zero, suc, ◌+◌, ◌*◌, ◌<◌, ◌≤◌, ◌^◌, List, [], ◌∷◌, ◌++◌, map, Option, Some, None, ℤ, pos, negsuc, ◌*ℤ◌, neg_ℤ, unsigned_abs, All, refl, sym, ap, ◌∙◌, subst, arith}
-use Rattle.std.proofs.lemmas.Int.{ints, unsigned_abs-mul}
+use Rattle.std.proofs.Common.{◌≡◌, ℕ, ◌+◌, ◌*◌, ◌≤◌, ◌^◌, List, [], ◌∷◌, ◌++◌, map, Option, Some, None, ℤ, pos, ◌*ℤ◌, unsigned_abs, refl, arith}
+use Rattle.std.proofs.lemmas.Int.{unsigned_abs-mul}
 use Rattle.std.proofs.lemmas.Nat.{mul-le}
-use Rattle.std.proofs.lemmas.List.Elements.{All-head, All-tail}
-use Rattle.dep_expr.specs.Weight.{weight}
 use Rattle.checked_tree.specs.declared.expressions.CheckedExpr.{CheckedExpr}
 use Rattle.checked_tree.specs.declared.sums.Part.{Part}
 use Rattle.checked_tree.specs.declared.sums.Part.TheVariants.{Constant, Atom}
 use Rattle.checked_tree.specs.declared.sums.Sum.{Sum}
-use Rattle.checked_tree.specs.Bare.{bare}
 use Rattle.deputy_types.specs.declared.derived.Whole.{Whole}
 use Rattle.deputy_types.specs.Places.{moved_sum}
-use Rattle.deputy_types.specs.Sums.{constant_part, atom_part, sum_of, constant, atom, plus, with_part, beyond, times, scaled, constant_of, side_by, side}
-use Rattle.light_checks.specs.Lightness.{part_factor, part_constant, factors, constants, AreLight, IsLight, IsLightPart}
+use Rattle.deputy_types.specs.Sums.{constant_part, constant, atom, with_part, beyond, times, scaled, constant_of, side_by, side}
+use Rattle.light_checks.specs.Lightness.{part_factor, part_constant, factors, constants, IsLight, IsLightPart}
 use Rattle.light_checks.specs.Weights.{IsAddress, IsBound, IsSmallPart, AreSingle, IsSingle, IsWhole}
 
 pub factors-append : (ps qs : List Part) → factors (ps ++ qs) ≡ factors ps + factors qs

@@ -1,5 +1,5 @@
 -- The expressions of a simple statement are short.
-use Rattle.std.specs.Prelude.{List, All, Some, None}
+use Rattle.std.specs.Prelude.{All, Some, None}
 use Rattle.c_tree.specs.declared.statements.Action.{Action}
 use Rattle.c_tree.specs.declared.statements.Action.TheVariants as action
 use Rattle.c_tree.specs.Short.{IsShortExpr}

@@ -1,5 +1,5 @@
 -- What is laid out of a short unit, and where the statements of its functions stand.
-use Rattle.std.specs.Prelude.{◌≡◌, List, Contains, Some, Ok}
+use Rattle.std.specs.Prelude.{◌≡◌, Contains, Some, Ok}
 use Rattle.c_tree.specs.declared.items.Function.{Function}
 use Rattle.c_tree.specs.declared.items.Item.TheVariants as item
 use Rattle.c_tree.specs.declared.items.Unit.{Unit as TextUnit}

@@ -1,6 +1,6 @@
 -- How far what is derived weighs: n is a bound on the words of its expression. An address has a factor of at most 65,536 and a constant of at most 2^48 for
 -- each word; a bound of a pointer has those of its address, and beside them those of an annotation.
-use Rattle.std.specs.Prelude.{ℕ, ◌+◌, ◌*◌, ◌≤◌, ◌≡◌, ◌^◌, List, [], ◌∷◌, Option, Some, None, ℤ, unsigned_abs}
+use Rattle.std.specs.Prelude.{ℕ, ◌+◌, ◌*◌, ◌≤◌, ◌≡◌, ◌^◌, List, [], ◌∷◌, Some, ℤ, unsigned_abs}
 use Rattle.checked_tree.specs.declared.sums.Part.{Part}
 use Rattle.checked_tree.specs.declared.sums.Part.TheVariants.{Constant, Atom}
 use Rattle.checked_tree.specs.declared.sums.Sum.{Sum}
@@ -11,7 +11,6 @@ use Rattle.deputy_types.specs.declared.derived.Place.{Place}
 use Rattle.deputy_types.specs.declared.derived.Pointed.{Pointed}
 use Rattle.deputy_types.specs.declared.derived.Source.{Source}
 use Rattle.deputy_types.specs.declared.derived.Source.TheVariants as source
-use Rattle.deputy_types.specs.declared.derived.UnionPlace.{UnionPlace}
 use Rattle.deputy_types.specs.declared.derived.Value.{Value}
 use Rattle.deputy_types.specs.declared.derived.Value.TheVariants as value
 use Rattle.deputy_types.specs.declared.derived.Whole.{Whole}

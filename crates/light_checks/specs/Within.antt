@@ -1,5 +1,5 @@
 -- What the declarations of a text within its limits come to: how far annotations reach, and what they name.
-use Rattle.std.specs.Prelude.{ℕ, ◌≤◌, ◌≡◌, ◌^◌, Bool, true, false, List, [], ◌∷◌, map, Option, Some, None, ℤ, unsigned_abs, slice_get, All}
+use Rattle.std.specs.Prelude.{ℕ, ◌≤◌, ◌≡◌, ◌^◌, Bool, true, false, List, [], map, Option, Some, None, unsigned_abs, slice_get, All}
 use Rattle.std.specs.Option.{option_flatten}
 use Rattle.dep_expr.specs.Weight.{weight}
 use Rattle.checked_tree.specs.declared.shapes.Bounds.{Bounds}

@@ -1,5 +1,5 @@
 -- Words whose numbers are small: those of what is short.
-use Rattle.std.specs.Prelude.{ℕ, ◌≤◌, ◌^◌, List, length, All}
+use Rattle.std.specs.Prelude.{◌≤◌, ◌^◌, List, length, All}
 use Rattle.c_tree.specs.declared.words.Word.{Word}
 use Rattle.c_tree.specs.declared.words.Word.TheVariants as word
 

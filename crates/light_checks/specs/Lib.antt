@@ -1,0 +1,7 @@
+pub mod Lightness
+pub mod ShortActions
+pub mod ShortUnits
+pub mod Standing
+pub mod Weights
+pub mod Within
+pub mod Words

@@ -1,0 +1,25 @@
+-- What is laid out of a short unit, and where the statements of its functions stand.
+use Rattle.std.specs.Prelude.{◌≡◌, Contains, Some, Ok}
+use Rattle.c_tree.specs.declared.items.Function.{Function}
+use Rattle.c_tree.specs.declared.items.Item.TheVariants as item
+use Rattle.c_tree.specs.declared.items.Unit.{Unit as TextUnit}
+use Rattle.c_tree.specs.ShortUnit.{IsShortUnit}
+use Rattle.deputy_types.specs.declared.signature.Returned.{Returned}
+use Rattle.deputy_types.specs.Functions.{text_of}
+use Rattle.deputy_types.specs.Heads.{result_of}
+use Rattle.deputy_types.specs.Statements.{Home}
+use Rattle.deputy_types.specs.Table.{Table}
+use Rattle.deputy_types.specs.UnitLayout.{layout}
+use Rattle.light_checks.specs.Standing.{Stands}
+
+-- a short unit with this table, the declarations of each of whose functions stand, and one of its functions with the result that it declares
+pub record IsFunctionOf (u : TextUnit) (t : Table) (f : Function) (r : Returned) : Type 0 where
+  pub short : IsShortUnit u
+  pub table : layout u ≡ Ok t
+  pub stand : (g : Function) → Contains u.items (item.Function g) → Stands t g
+  pub function : Contains u.items (item.Function f)
+  pub result : result_of t f.head ≡ Some r
+
+-- where a body of the unit with this result stands
+abbrev pub home_of : TextUnit → Table → Returned → Home
+home_of u t r = record { functions = (text_of t u.items).functions; result = r }

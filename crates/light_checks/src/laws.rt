@@ -1,0 +1,61 @@
+//! What a short text asks for has numbers.
+ghost use Rattle.std.specs.Prelude.{◌≡◌, ◌≢◌, ℕ, List, [], All, Some, None, Ok, Err};
+ghost use Rattle.c_tree.specs.declared.expressions.Expr.{Expr};
+ghost use Rattle.c_tree.specs.declared.items.Function.{Function};
+ghost use Rattle.c_tree.specs.declared.items.Unit.{Unit as TextUnit};
+ghost use Rattle.c_tree.specs.declared.statements.Action.{Action};
+ghost use Rattle.c_tree.specs.declared.statements.Simple.{Simple};
+ghost use Rattle.c_tree.specs.Short.{IsShortExpr};
+ghost use Rattle.c_tree.specs.ShortUnit.{IsShortUnit};
+ghost use Rattle.checked_tree.specs.declared.expressions.CheckedExpr.{CheckedExpr};
+ghost use Rattle.checked_tree.specs.declared.statements.CheckedStmt.{CheckedStmt};
+ghost use Rattle.deputy_types.specs.declared.asked.Asked.{Asked};
+ghost use Rattle.deputy_types.specs.declared.derived.Derived.{Derived};
+ghost use Rattle.deputy_types.specs.declared.signature.Returned.{Returned};
+ghost use Rattle.deputy_types.specs.Checking.{Fault};
+ghost use Rattle.deputy_types.specs.Context.{Context};
+ghost use Rattle.deputy_types.specs.Expressions.{derive};
+ghost use Rattle.deputy_types.specs.Numbering.{Numbered, numbered};
+ghost use Rattle.deputy_types.specs.Functions.{context_of};
+ghost use Rattle.deputy_types.specs.Statements.{Home, act, condition, controlling, simple, statement_context};
+ghost use Rattle.deputy_types.specs.Table.{Table};
+ghost use Rattle.deputy_types.specs.UnitLayout.{layout};
+ghost use Rattle.light_checks.specs.Lightness.{IsLightCheck};
+ghost use Rattle.light_checks.specs.ShortActions.{HasShortParts};
+ghost use Rattle.light_checks.specs.ShortUnits.{IsFunctionOf, home_of};
+ghost use Rattle.light_checks.specs.Within.{IsContext, IsHome, IsTable};
+
+/// Light checks have numbers, whatever checks and atoms the function has before them.
+pub fn light_checks_have_numbers()
+    ensures { (asked : List Asked) → All IsLightCheck asked → (before : Numbered) → numbered asked before ≢ None }
+{}
+
+/// A short expression that is derived has checks with numbers.
+pub fn an_expression_has_numbers()
+    ensures { (ctx : Context) (e : Expr) (d : Derived) (asked : List Asked) (before : Numbered) → IsContext ctx → IsShortExpr e → derive ctx e [] ≡ Some (d, asked) → numbered asked before ≢ None }
+{}
+
+/// A short condition that is derived has checks with numbers.
+pub fn a_condition_has_numbers()
+    ensures { (ctx : Context) (e : Expr) (x : CheckedExpr) (asked : List Asked) (before : Numbered) → IsContext ctx → IsShortExpr e → controlling ctx e [] ≡ Some (x, asked) → numbered asked before ≢ None }
+{}
+
+/// A simple statement with short expressions that is derived has checks with numbers.
+pub fn a_simple_statement_has_numbers()
+    ensures { (ctx : Context) (home : Home) (a : Action) (s : CheckedStmt) (asked : List Asked) (before : Numbered) → IsContext ctx → IsHome home → HasShortParts a → act ctx home a [] ≡ Some (s, asked) → numbered asked before ≢ None }
+{}
+
+/// The table of a short unit is within the bounds: sizes, offsets, counts and bases, and the numbers and names of annotations.
+pub fn a_short_unit_has_a_table_within()
+    ensures { (u : TextUnit) (t : Table) → IsShortUnit u → layout u ≡ Ok t → IsTable t }
+{}
+
+/// In a short unit whose functions have declarations that stand, a simple statement is refused at its line only where no rule derives it.
+pub fn a_refused_statement_has_no_rule()
+    ensures { (u : TextUnit) (t : Table) (f : Function) (r : Returned) (s : Simple) (before : Numbered) (e : Fault) → IsFunctionOf u t f r → HasShortParts s.action → simple (context_of t f) (home_of u t r) s before ≡ Err e → act (statement_context (context_of t f) s.line before) (home_of u t r) s.action [] ≡ None }
+{}
+
+/// And so is a condition.
+pub fn a_refused_condition_has_no_rule()
+    ensures { (u : TextUnit) (t : Table) (f : Function) (r : Returned) (line : ℕ) (x : Expr) (before : Numbered) (e : Fault) → IsFunctionOf u t f r → IsShortExpr x → condition (context_of t f) line x before ≡ Err e → controlling (statement_context (context_of t f) line before) x [] ≡ None }
+{}

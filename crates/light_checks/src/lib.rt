@@ -1,0 +1,10 @@
+//! No check that the rules ask for in a short unit is too heavy to be numbered.
+#![tactic(auto)]
+
+mod laws;
+
+pub use laws::{
+    a_condition_has_numbers, a_refused_condition_has_no_rule, a_refused_statement_has_no_rule,
+    a_short_unit_has_a_table_within, a_simple_statement_has_numbers, an_expression_has_numbers,
+    light_checks_have_numbers,
+};

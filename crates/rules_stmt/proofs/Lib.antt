@@ -3,6 +3,7 @@ pub mod FunctionSteps
 pub mod HeadPlaces
 pub mod ItemSteps
 pub mod LaidOut
+pub mod LayoutTypes
 pub mod Leftovers
 pub mod MemberCounts
 pub mod Numbers

@@ -29,9 +29,13 @@ pub(crate) struct Text<'a> {
 
 impl<'a> Model for Text<'a> {
     ghost use Rattle.deputy_types.specs.Heads.{Text as Spec};
+    ghost use Rattle.c_tree.specs.contracts.items.Item as item;
+    ghost use Rattle.std.specs.Coded.{codes};
     ghost use Rattle.rules_stmt.specs.Places.{FindsHeads};
 
     ghost Value = { Spec };
+
+    ghost coded = { Prim.hlevel (codes, item.the_row.coded) };
 
     ghost view = { λ t. record { table = t.table.now; items = t.items.now; functions = t.functions } };
 

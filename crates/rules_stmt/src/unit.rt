@@ -109,7 +109,7 @@ fn check_result(
 }
 
 /// The k-th function with a body.
-#[tactic(auto, using(crate::proofs::FunctionSteps::function_over, crate::proofs::FunctionSteps::function_within, crate::proofs::ShortItems::few_parameters), unfolding(deputy_types::specs::Functions::check_function))]
+#[tactic(auto, unfolding(deputy_types::specs::Functions::check_function))]
 fn check_function(
     alloc: Global,
     text: &Text<'_>,

@@ -1,5 +1,5 @@
 -- A text whose declarations stand has at most 4,096 functions with bodies.
-use Rattle.std.proofs.Common.{◌≡◌, ℕ, ◌+◌, ◌≤◌, ◌<◌, nat_le, nat_lt, Bool, true, false, List, [], ◌∷◌, ◌++◌, length, Result, Ok, Err, if◌then◌else◌, refl, ap, sym, arith}
+use Rattle.std.proofs.Common.{◌≡◌, ℕ, ◌+◌, ◌≤◌, ◌<◌, nat_le, nat_lt, Bool, true, false, List, [], ◌∷◌, ◌++◌, length, Ok, Err, if◌then◌else◌, refl, ap, sym, arith}
 use Rattle.std.proofs.lemmas.Bool.{leb-false}
 use Rattle.c_tree.specs.declared.items.GlobalItem.{GlobalItem}
 use Rattle.c_tree.specs.declared.items.Item.{Item}
@@ -8,7 +8,6 @@ use Rattle.c_tree.specs.declared.items.StructItem.{StructItem}
 use Rattle.c_tree.specs.declared.limits.LimitKind.TheVariants as limit
 use Rattle.deputy_types.specs.declared.extent.Extent.{Extent}
 use Rattle.deputy_types.specs.declared.global.GlobalShape.{GlobalShape}
-use Rattle.deputy_types.specs.declared.refusal.TypeRefusal.{TypeRefusal}
 use Rattle.deputy_types.specs.declared.refusal.TypeRefusal.TheVariants as refusal
 use Rattle.deputy_types.specs.declared.types.Types.{Types}
 use Rattle.deputy_types.specs.Functions.{functions_of}

@@ -1,11 +1,10 @@
 -- What the table of a text bounds.
-use Rattle.std.proofs.Common.{◌≡◌, ℕ, ◌≤◌, ◌<◌, ◌^◌, List, [], length, Result, Ok, ap, sym, subst, arith}
+use Rattle.std.proofs.Common.{◌≡◌, ℕ, ◌<◌, ◌^◌, List, [], length, Ok, subst, arith}
 use Rattle.std.proofs.lemmas.List.Elements.{All-nil}
 use Rattle.c_tree.specs.declared.items.Item.{Item}
 use Rattle.c_tree.specs.declared.items.Unit.{Unit as TextUnit}
 use Rattle.deputy_types.specs.declared.types.Types.{Types}
 use Rattle.deputy_types.specs.Found.{first_found, found_items, struct_names}
-use Rattle.deputy_types.specs.Functions.{functions_of}
 use Rattle.deputy_types.specs.Table.{Table, members_of}
 use Rattle.deputy_types.specs.UnitLayout.{image_of, layout, no_structs, nothing_declared, structs_of, table_behind, table_of, table_with, with_items}
 use Rattle.deputy_types.specs.declared.found.Found.{Found}

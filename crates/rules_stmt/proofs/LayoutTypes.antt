@@ -1,6 +1,6 @@
 -- The types with which a table is laid out, which deputy_types keeps to itself: each is that of a value whose name is public.
 use Rattle.deputy_types.specs.StructLayout.{empty_struct, with_arm_of}
-use Rattle.deputy_types.specs.UnitLayout.{empty_image, no_structs, nothing_declared, with_laid}
+use Rattle.deputy_types.specs.UnitLayout.{no_structs, nothing_declared, with_laid}
 
 abbrev type_of : {A : Type 0} → A → Type 0
 type_of {A = A} x = A

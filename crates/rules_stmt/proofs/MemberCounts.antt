@@ -2,7 +2,7 @@
 use Rattle.std.proofs.Common.{◌≡◌, ℕ, ◌+◌, ◌-◌, ◌*◌, ◌^◌, max, ◌≤◌, ◌<◌, nat_lt, Bool, true, false, List, [], ◌∷◌, ◌++◌, length, ℤ, Option, Some, None, Ok, option_map, unwrap_or, slice_get, position, All, if◌then◌else◌, refl, sym, ◌∙◌, ap, subst, arith, length-append}
 use Rattle.std.specs.List.{list_any}
 use Rattle.std.proofs.lemmas.Bool.{ltb-true, eqb-true, and_parts}
-use Rattle.std.proofs.lemmas.List.Elements.{All-nil, All-push, All-get_or}
+use Rattle.std.proofs.lemmas.List.Elements.{All-push, All-get_or}
 use Rattle.std.proofs.lemmas.List.Quantifiers.{position-Some}
 use Rattle.std.proofs.lemmas.Option.{get_or_from_slice_get, slice_get_within}
 use Rattle.c_tree.specs.declared.items.Arm.{Arm}
@@ -17,17 +17,15 @@ use Rattle.checked_tree.specs.declared.shapes.Shape.{Shape}
 use Rattle.checked_tree.specs.declared.shapes.StructShape.{StructShape}
 use Rattle.checked_tree.specs.declared.shapes.UnionShape.{UnionShape}
 use Rattle.deputy_types.specs.declared.extent.Extent.{Extent}
-use Rattle.deputy_types.specs.declared.refusal.TypeRefusal.{TypeRefusal}
 use Rattle.deputy_types.specs.declared.refusal.TypeRefusal.TheVariants as refusal
 use Rattle.deputy_types.specs.declared.sibling.MemberName.{MemberName}
 use Rattle.deputy_types.specs.declared.sibling.Role.{Role}
 use Rattle.deputy_types.specs.declared.siblings.Siblings.{Siblings}
 use Rattle.deputy_types.specs.declared.types.Types.{Types}
-use Rattle.deputy_types.specs.Declarations.{declared_role}
 use Rattle.deputy_types.specs.Extents.{no_extent, type_extent, round_up_to}
 use Rattle.deputy_types.specs.Options.{and_then}
-use Rattle.deputy_types.specs.Siblings.{no_siblings, is_member, member_number, is_new_member, with_member, with_sibling}
-use Rattle.deputy_types.specs.StructLayout.{Surroundings, or_no_decl, is_number, is_first, is_new_field, field_shape, field_declared, counted, element_count, within_limits, placed, with_plain, arms_extent, const_value, arm_tag, arm_shape, with_arm_of, with_tagged_arm, with_arm, with_next_arm, with_arms_in_turn, is_new_union, with_union_of, with_union_arms, with_union_at, with_union, with_any_field, empty_struct, with_fields_in_turn, laid_out, head_of_struct, with_field_sibling, with_arm_siblings, field_siblings, next_part, tags_of, struct_siblings, laid_with, struct_laid}
+use Rattle.deputy_types.specs.Siblings.{no_siblings, is_member, is_new_member, with_member, with_sibling}
+use Rattle.deputy_types.specs.StructLayout.{Surroundings, or_no_decl, is_number, is_first, is_new_field, field_shape, field_declared, counted, element_count, within_limits, placed, with_plain, arms_extent, const_value, arm_tag, arm_shape, with_arm_of, with_tagged_arm, with_arm, with_next_arm, with_arms_in_turn, is_new_union, with_union_of, with_union_arms, with_union_at, with_union, with_any_field, empty_struct, with_fields_in_turn, laid_out, head_of_struct, with_arm_siblings, field_siblings, next_part, tags_of, struct_siblings, laid_with, struct_laid}
 use Rattle.deputy_types.specs.UnitLayout.{with_laid, with_next_struct, with_item_struct, structs_of}
 use Rattle.deputy_types.proofs.Inversions.{some_then, some_map, if_some, ok_then, ok_declared, if_ok, unless_ok}
 use Rattle.rules_stmt.proofs.LayoutTypes.{Laying, Arms, Laid, Structs}

@@ -1,9 +1,9 @@
 -- There are as many shapes of slots as slots.
-use Rattle.std.proofs.Common.{◌≡◌, ℕ, ◌+◌, List, [], ◌∷◌, ◌++◌, length, map, Bool, true, false, Option, Some, if◌then◌else◌, refl, ap, sym, ◌∙◌, arith, length-append}
+use Rattle.std.proofs.Common.{◌≡◌, ◌+◌, List, [], ◌∷◌, ◌++◌, length, map, Bool, true, false, Option, Some, if◌then◌else◌, arith, length-append}
 use Rattle.std.proofs.lemmas.List.{length-map}
 use Rattle.c_tree.specs.declared.items.Function.{Function}
 use Rattle.c_tree.specs.declared.items.Local.{Local}
-use Rattle.c_tree.specs.Slots.{Slot, hidden_slots, is_automatic, slots, parameter, local, low_bound, high_bound}
+use Rattle.c_tree.specs.Slots.{hidden_slots, is_automatic, slots, parameter, local, low_bound, high_bound}
 use Rattle.checked_tree.specs.declared.shapes.Shape.{Shape}
 use Rattle.checked_tree.specs.declared.shapes.Shape.TheVariants as shape
 use Rattle.deputy_types.specs.Heads.{with_hidden, slot_shapes, parameter_shapes, parameter_shape, parameter_siblings, local_shape, local_siblings}

@@ -1,4 +1,4 @@
-use Rattle.std.proofs.Common.{take, sym, length, arith, rules}
+use Rattle.std.proofs.Common.{take, sym, arith, rules}
 use Rattle.std.proofs.lemmas.List.{take_more, length-take-le}
 use Rattle.rules_stmt.proofs.HeadPlaces.{heads_next}
 use Rattle.rules_stmt.proofs.first_heads.head_places.Goals as goal

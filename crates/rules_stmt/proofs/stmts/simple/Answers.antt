@@ -1,4 +1,4 @@
-use Rattle.std.proofs.Common.{◌≡◌, rules}
+use Rattle.std.proofs.Common.{rules}
 use Rattle.deputy_types.specs.Context.{Context}
 use Rattle.deputy_types.specs.Statements.{simple, act}
 use Rattle.check_numbering.specs.Building.{numbers_of}

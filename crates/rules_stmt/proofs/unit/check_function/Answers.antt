@@ -1,5 +1,4 @@
-use Rattle.std.proofs.Common.{◌≡◌, sym, subst, arith, rules}
-use Rattle.deputy_types.specs.Functions as spec
+use Rattle.std.proofs.Common.{sym, subst, rules}
 use Rattle.rules_stmt.specs.Units.{IsChecked}
 use Rattle.rules_stmt.proofs.FunctionSteps.{function_over, function_within}
 use Rattle.rules_stmt.proofs.ShortItems.{few_parameters}

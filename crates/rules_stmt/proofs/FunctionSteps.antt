@@ -1,8 +1,9 @@
 -- The steps of a function: a head that stands, and at most 128 slots.
-use Rattle.std.proofs.Common.{◌≡◌, ℕ, ◌≤◌, ◌<◌, nat_lt, Bool, true, false, not, if◌then◌else◌, List, length, Option, Result, Ok, Err, refl, ap, sym, ◌∙◌, true≢false, arith}
+use Rattle.std.proofs.Common.{◌≡◌, ℕ, ◌≤◌, ◌<◌, nat_lt, Bool, true, false, not, if◌then◌else◌, List, length, Option, Result, Err, refl, ap, sym, ◌∙◌, true≢false, arith}
 use Rattle.std.proofs.lemmas.Bool.{lt-ltb, ltb-true}
 use Rattle.c_tree.specs.declared.items.Function.{Function}
 use Rattle.c_tree.specs.declared.limits.LimitKind.TheVariants.{Locals}
+use Rattle.c_tree.specs.Slots.{slots}
 use Rattle.checked_tree.specs.declared.shapes.Shape.{Shape}
 use Rattle.checked_tree.specs.declared.units.CheckedFn.{CheckedFn}
 use Rattle.deputy_types.specs.Checking.{Fault, NoRule, Limit}
@@ -30,12 +31,24 @@ not_below n h = by (nat_lt 128 n) refl
     by false e = refl
 
 module _ (text : Text) (k : ℕ) (f : Function) (shapes : List (Option Shape)) where
+  abbrev over : Bool
+  over = nat_lt 128 (length (slots f))
+
+  abbrev wrong : Result CheckedFn Fault
+  wrong = Err (NoRule f.head.line)
+
+  abbrev limit : Result CheckedFn Fault
+  limit = Err (Limit f.head.line Locals)
+
+  abbrev behind : Result CheckedFn Fault
+  behind = check_result text f (result_of text.table f.head) (context_of text.table f)
+
   pub function_over : shapes ≡ slot_shapes text.table f → function_stands text k f.head ≡ true → 128 < length shapes → check_function text k f ≡ Err (Limit f.head.line Locals)
   unfolding check_function is_over
-  function_over same stands over =
+  function_over same stands past =
       let count = slots_counted text.table f in
       let long : length shapes ≡ length (slot_shapes text.table f) = ap length same in
-      chosen _ _ _ _ _ stands ∙ first _ _ _ (lt-ltb 128 _ (omega (arith, count, long, over)))
+      chosen (function_stands text k f.head) over wrong limit behind stands ∙ first over limit behind (lt-ltb 128 (length (slots f)) (omega (arith, count, long, past)))
 
   pub function_within : shapes ≡ slot_shapes text.table f → function_stands text k f.head ≡ true → length shapes ≤ 128
       → check_function text k f ≡ check_result text f (result_of text.table f.head) (context_of text.table f)
@@ -43,4 +56,4 @@ module _ (text : Text) (k : ℕ) (f : Function) (shapes : List (Option Shape)) w
   function_within same stands few =
       let count = slots_counted text.table f in
       let long : length shapes ≡ length (slot_shapes text.table f) = ap length same in
-      chosen _ _ _ _ _ stands ∙ second _ _ _ (not_below _ (omega (arith, count, long, few)))
+      chosen (function_stands text k f.head) over wrong limit behind stands ∙ second over limit behind (not_below (length (slots f)) (omega (arith, count, long, few)))

@@ -1,5 +1,5 @@
 -- Each function of a short unit is short, and a function whose slots are few has few parameters.
-use Rattle.std.proofs.Common.{◌≡◌, ℕ, ◌+◌, ◌≤◌, ◌<◌, ◌^◌, List, [], ◌∷◌, ◌++◌, length, map, All, Contains, tt, arith}
+use Rattle.std.proofs.Common.{◌<◌, ◌^◌, length, All, Contains, arith}
 use Rattle.std.proofs.lemmas.List.Elements.{All-contains_itself}
 use Rattle.c_tree.specs.declared.items.Function.{Function}
 use Rattle.c_tree.specs.declared.items.Item.{Item}

@@ -1,5 +1,4 @@
 pub mod Fits
 pub mod Names
-pub mod Placed
-pub mod Texts
+pub mod Places
 pub mod Units

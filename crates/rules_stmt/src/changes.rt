@@ -74,14 +74,8 @@ fn change_at(
         higher,
         size: ctx.size_of(key),
     };
-    coerce(
-        alloc,
-        ctx,
-        CheckKind::Change,
-        CheckKind::Change,
-        &fit,
-        asked,
-    )
+    let kind = CheckKind::Change;
+    coerce(alloc, ctx, kind, kind, &fit, asked)
 }
 
 /// The same for the sibling with number `i`.

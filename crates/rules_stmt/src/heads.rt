@@ -1,77 +1,18 @@
 //! Which heads, parameters and locals stand, and the line of the first that does not.
-ghost use Rattle.std.specs.Prelude.{◌≡◌, ◌&&◌, ◌<◌, ◌^◌, length, Some, IfOk, is_some, option_copied, position, slice_get};
+ghost use Rattle.std.specs.Prelude.{◌≡◌, ◌&&◌, ◌<◌, ◌^◌, length, Some, IfOk, is_some, option_copied};
 ghost use Rattle.deputy_types.specs.Agreement as agreement;
 ghost use Rattle.deputy_types.specs.Heads as spec;
-ghost use Rattle.deputy_types.specs.Options.{and_then};
-ghost use Rattle.rules_stmt.specs.Texts.{text};
 
 use crate::agreement::{agree, parameter_place};
 use crate::declared::result_of;
-use crate::functions::Functions;
-use c_tree::{Function, Head, Item, Local, Param};
+use crate::texts::Text;
+use c_tree::{Function, Head, Local, Param};
 use checked_tree::Shape;
 use dep_infer::LocalTable;
-use deputy_types::{NameList, TypeTable, kernel_named};
+use deputy_types::{NameList, kernel_named};
 use sd_base::{Memory, Name};
 use sqlite_items::at;
 use std::alloc::Global;
-
-/// The head that an item has.
-fn head_in(item: &Item) -> Option<&Head>
-    ensures { option_copied result ≡ spec.head_in item.now }
-{
-    match item {
-        Item::Struct(_) => None,
-        Item::Global(_) => None,
-        Item::Function(f) => Some(&f.head),
-        Item::Prototype(h) => Some(h),
-    }
-}
-
-/// Whether this is a head with this name.
-fn is_named_head(name: &Name, head: Option<&Head>) -> bool
-    ensures { result ≡ spec.is_named_head name.now (option_copied head.entry) }
-{
-    match head {
-        Some(h) => name.bytes() == h.name.bytes(),
-        None => false,
-    }
-}
-
-/// Whether an item has a head of this name.
-fn heads_name(name: &Name, item: &Item) -> bool
-    ensures { result ≡ spec.heads_name name.now item.now }
-{
-    is_named_head(name, head_in(item))
-}
-
-/// The place of the first item with a head of this name.
-fn head_place(items: &[Item], name: &Name) -> Option<usize>
-    ensures { result ≡ position (spec.heads_name name.now) items.now }
-{
-    items.iter().position(|item| heads_name(name, item))
-}
-
-/// The head of the item at this place.
-fn head_at(items: &[Item], k: usize) -> Option<&Head>
-    ensures { option_copied result ≡ and_then (slice_get items.now k) spec.head_in }
-{
-    match at(items, k) {
-        Some(item) => head_in(item),
-        None => None,
-    }
-}
-
-/// The first head with this name.
-#[tactic(auto, unfolding(deputy_types::specs::Heads::first_head))]
-fn first_head<'a>(items: &'a [Item], name: &Name) -> Option<&'a Head>
-    ensures { option_copied result ≡ spec.first_head items.now name.now }
-{
-    match head_place(items, name) {
-        Some(k) => head_at(items, k),
-        None => None,
-    }
-}
 
 /// Whether a head agrees with the first head of its name.
 fn agrees_with(structs: &NameList, first: Option<&Head>, h: &Head) -> bool
@@ -84,11 +25,11 @@ fn agrees_with(structs: &NameList, first: Option<&Head>, h: &Head) -> bool
 }
 
 /// Whether a result is derived, of a head that agrees with the first one of its name.
-fn agreed_stands(alloc: Global, table: &TypeTable, items: &[Item], h: &Head) -> Result<bool, Memory>
-    ensures { IfOk result (λ b. b ≡ (spec.agrees_with table.now.types.structs (spec.first_head items.now h.now.name) h.now && is_some (spec.result_of table.now h.now))) }
+fn agreed_stands(alloc: Global, text: &Text<'_>, h: &Head) -> Result<bool, Memory>
+    ensures { IfOk result (λ b. b ≡ (spec.agrees_with text.now.table.types.structs (spec.first_head text.now.items h.now.name) h.now && is_some (spec.result_of text.now.table h.now))) }
 {
-    if agrees_with(&table.types().structs, first_head(items, &h.name), h) {
-        match result_of(alloc, table, h)? {
+    if agrees_with(&text.table.types().structs, text.first_head(&h.name), h) {
+        match result_of(alloc, text.table, h)? {
             Some(_) => Ok(true),
             None => Ok(false),
         }
@@ -100,20 +41,14 @@ fn agreed_stands(alloc: Global, table: &TypeTable, items: &[Item], h: &Head) -> 
 /// Whether a head stands: no kernel call and no global has its name, it agrees with the first head of its name, and its result is derived. The only refusal is want of
 /// memory.
 #[tactic(auto, unfolding(deputy_types::specs::Heads::head_stands))]
-pub(crate) fn head_stands(
-    alloc: Global,
-    table: &TypeTable,
-    items: &[Item],
-    functions: &Functions,
-    h: &Head,
-) -> Result<bool, Memory>
-    ensures { IfOk result (λ b. b ≡ spec.head_stands (text table.now items.now functions.now) h.now) }
+pub(crate) fn head_stands(alloc: Global, text: &Text<'_>, h: &Head) -> Result<bool, Memory>
+    ensures { IfOk result (λ b. b ≡ spec.head_stands text.now h.now) }
 {
     match kernel_named(&h.name) {
         Some(_) => Ok(false),
-        None => match table.global(&h.name) {
+        None => match text.table.global(&h.name) {
             Some(_) => Ok(false),
-            None => agreed_stands(alloc, table, items, h),
+            None => agreed_stands(alloc, text, h),
         },
     }
 }
@@ -132,16 +67,14 @@ fn is_at(number: Option<u32>, k: usize) -> bool
 #[tactic(auto, unfolding(deputy_types::specs::Heads::function_stands))]
 pub(crate) fn function_stands(
     alloc: Global,
-    table: &TypeTable,
-    items: &[Item],
-    functions: &Functions,
+    text: &Text<'_>,
     k: usize,
     h: &Head,
 ) -> Result<bool, Memory>
-    ensures { IfOk result (λ b. b ≡ spec.function_stands (text table.now items.now functions.now) k h.now) }
+    ensures { IfOk result (λ b. b ≡ spec.function_stands text.now k h.now) }
 {
-    if head_stands(alloc, table, items, functions, h)? {
-        Ok(is_at(functions.number(&h.name), k))
+    if head_stands(alloc, text, h)? {
+        Ok(is_at(text.functions.number(&h.name), k))
     } else {
         Ok(false)
     }

@@ -10,6 +10,7 @@ mod changes;
 mod coerce;
 mod convert;
 mod declared;
+mod first_heads;
 mod functions;
 mod handlers;
 mod heads;
@@ -21,6 +22,7 @@ mod stmts;
 mod store;
 mod tags;
 mod targets;
+mod texts;
 mod unit;
 
 pub use unit::check_unit;

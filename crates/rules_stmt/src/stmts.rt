@@ -7,7 +7,7 @@ ghost use Rattle.deputy_types.specs.Statements as spec;
 ghost use Rattle.rules_stmt.specs.Fits.{Fits};
 ghost use Rattle.check_numbering.specs.Building.{numbers_of};
 ghost use Rattle.check_numbering.specs.Outcome.{Checks};
-ghost use Rattle.rules_stmt.specs.Placed.{placed};
+ghost use Rattle.check_numbering.specs.Placed.{placed};
 
 use crate::actions::{Home, act, controlling};
 use c_tree::{Action, Body, Expr, Simple, Stmt};

@@ -1,21 +1,20 @@
 //! `check_unit`: functions and whole texts, in text order; within a function its head, its parameters and locals, then its statements.
-ghost use Rattle.std.specs.Prelude.{◌≡◌, ◌<◌, ◌^◌, ◌++◌, [], ◌∷◌, List, All, map, length, IfOk};
-ghost use Rattle.c_tree.specs.declared.items.Item.{Item as Spec};
+ghost use Rattle.std.specs.Prelude.{◌≡◌, ◌<◌, ◌^◌, [], All, Ok, length, IfOk};
 ghost use Rattle.c_tree.specs.declared.items.Item.TheVariants as kinds;
 ghost use Rattle.c_tree.specs.ShortUnit.{IsShortFunction, IsShortUnit};
 ghost use Rattle.deputy_types.specs.Functions as spec;
-ghost use Rattle.deputy_types.specs.Heads as heads;
+ghost use Rattle.deputy_types.specs.Heads as declared;
+ghost use Rattle.deputy_types.specs.UnitLayout.{layout};
 ghost use Rattle.rules_stmt.specs.Fits.{Fits};
-ghost use Rattle.rules_stmt.specs.Texts.{text};
 ghost use Rattle.rules_stmt.specs.Units.{IsChecked, IsLaidOut, IsShortItem, Steps};
 
 use crate::actions::Home;
-use crate::declared::{Shapes, parameter_shapes, result_of, signature_of, slot_shapes};
-use crate::functions::Functions;
+use crate::declared::{Shapes, parameter_shapes, result_of, slot_shapes};
 use crate::heads::{function_stands, head_stands, wrong_declaration, wrong_in_prototype};
 use crate::results::{result_scalar, shapes_of};
 use crate::shape_copies::{copy_blocks, copy_shapes, copy_structs};
 use crate::stmts::check_each;
+use crate::texts::Text;
 use c_tree::{Function, Head, Item, LimitKind, Unit};
 use check_numbering::{Build, RuleRefusal};
 use checked_tree::{CheckedFn, CheckedUnit};
@@ -27,56 +26,21 @@ use sd_base::limits::LOCALS;
 use sqlite_items::Items;
 use std::alloc::Global;
 
-/// What calls see of an item, behind the functions that are there.
-fn with_item(
-    alloc: Global,
-    table: &TypeTable,
-    functions: Functions,
-    item: &Item,
-) -> Result<Functions, Memory>
-    requires { length functions < 2 ^ 32 }
-    ensures { IfOk result (λ more. (rest : List Spec) →
-        more ++ map (heads.signature_of table.now) (spec.functions_of rest) ≡ functions ++ map (heads.signature_of table.now) (spec.functions_of (item.now ∷ rest))) }
-{
-    match item {
-        Item::Struct(_) => Ok(functions),
-        Item::Global(_) => Ok(functions),
-        Item::Function(f) => {
-            let mut more = functions;
-            more.declare(signature_of(alloc, table, f)?)?;
-            Ok(more)
-        }
-        Item::Prototype(_) => Ok(functions),
-    }
-}
-
-/// What calls see of the functions of a text with bodies.
-fn functions_of(alloc: Global, table: &TypeTable, items: &[Item]) -> Result<Functions, Memory>
-    requires { IsLaidOut table.now items.now }
-    ensures { IfOk result (λ functions. functions ≡ map (heads.signature_of table.now) (spec.functions_of items.now)) }
-{
-    let mut functions = Functions::new(alloc);
-    for item in items {
-        functions = with_item(alloc, table, functions, item)?;
-    }
-    Ok(functions)
-}
-
 /// The statements of a function with this result.
 #[tactic(auto, unfolding(deputy_types::specs::Functions::check_statements))]
 fn check_statements(
     alloc: Global,
     ctx: &Context<'_>,
-    functions: &Functions,
+    text: &Text<'_>,
     f: &Function,
     returned: &Returned,
 ) -> Result<CheckedFn, RuleRefusal>
     requires fits { Fits ctx.now.table ctx.now.slots }
     requires few { length f.now.head.params < 2 ^ 32 }
-    ensures { (items : List Spec) → IsChecked (spec.check_statements (text ctx.now.table items functions.now) f.now returned.now ctx.now) result }
+    ensures { IsChecked (spec.check_statements text.now f.now returned.now ctx.now) result }
 {
     let home = Home {
-        functions,
+        functions: &text.functions,
         returned,
     };
     let mut build = Build::new(alloc);
@@ -97,91 +61,82 @@ fn check_statements(
 fn check_declared(
     alloc: Global,
     ctx: &Context<'_>,
-    functions: &Functions,
+    text: &Text<'_>,
     f: &Function,
     returned: &Returned,
 ) -> Result<CheckedFn, RuleRefusal>
     requires fits { Fits ctx.now.table ctx.now.slots }
     requires few { length f.now.head.params < 2 ^ 32 }
-    ensures { (items : List Spec) → IsChecked
-        (spec.check_declared (text ctx.now.table items functions.now) f.now returned.now ctx.now (heads.wrong_declaration ctx.now.locals ctx.now.slots f.now))
+    ensures { IsChecked
+        (spec.check_declared text.now f.now returned.now ctx.now (declared.wrong_declaration ctx.now.locals ctx.now.slots f.now))
         result }
 {
     match wrong_declaration(ctx.locals, ctx.slots.as_slice(), f) {
         Some(line) => Err(RuleRefusal::NoRule(line)),
-        None => check_statements(alloc, ctx, functions, f, returned),
+        None => check_statements(alloc, ctx, text, f, returned),
     }
 }
 
 /// The result of a function, then what stands in it.
 fn check_result(
     alloc: Global,
-    table: &TypeTable,
-    functions: &Functions,
+    text: &Text<'_>,
     f: &Function,
     slots: &Shapes,
 ) -> Result<CheckedFn, RuleRefusal>
     requires short { IsShortFunction f.now }
-    requires fits { Fits table.now slots.now }
+    requires fits { Fits text.now.table slots.now }
     requires few { length f.now.head.params < 2 ^ 32 }
-    requires slots { slots.now ≡ heads.slot_shapes table.now f.now }
-    ensures { (items : List Spec) → IsChecked
-        (spec.check_result (text table.now items functions.now) f.now (heads.result_of table.now f.now.head) (spec.context_of table.now f.now))
+    requires slots { slots.now ≡ declared.slot_shapes text.now.table f.now }
+    ensures { IsChecked
+        (spec.check_result text.now f.now (declared.result_of text.now.table f.now.head) (spec.context_of text.now.table f.now))
         result }
 {
-    match result_of(alloc, table, &f.head)? {
+    match result_of(alloc, text.table, &f.head)? {
         Some(returned) => {
             let locals = auto_bounds(alloc, f)?;
             let ctx = Context {
-                types: table,
+                types: text.table,
                 locals: &locals,
                 slots,
                 line: 0,
                 first: 0,
             };
-            check_declared(alloc, &ctx, functions, f, &returned)
+            check_declared(alloc, &ctx, text, f, &returned)
         }
         None => Err(RuleRefusal::NoRule(f.head.line)),
     }
 }
 
 /// The k-th function with a body.
-#[tactic(auto, using(crate::proofs::FunctionSteps::function_over, crate::proofs::FunctionSteps::function_within, crate::proofs::ShortItems::few_parameters), unfolding(deputy_types::specs::Functions::check_function))]
+#[tactic(auto, unfolding(deputy_types::specs::Functions::check_function))]
 fn check_function(
     alloc: Global,
-    table: &TypeTable,
-    items: &[Item],
-    functions: &Functions,
+    text: &Text<'_>,
     k: usize,
     f: &Function,
 ) -> Result<CheckedFn, RuleRefusal>
     requires short { IsShortFunction f.now }
-    requires laid { IsLaidOut table.now items.now }
-    ensures { IsChecked (spec.check_function (text table.now items.now functions.now) k f.now) result }
+    requires laid { IsLaidOut text.now.table text.now.items }
+    ensures { IsChecked (spec.check_function text.now k f.now) result }
 {
-    if !function_stands(alloc, table, items, functions, k, &f.head)? {
+    if !function_stands(alloc, text, k, &f.head)? {
         return Err(RuleRefusal::NoRule(f.head.line));
     }
-    let slots = slot_shapes(alloc, table, f)?;
+    let slots = slot_shapes(alloc, text.table, f)?;
     if slots.len() > LOCALS {
         return Err(RuleRefusal::Limit(f.head.line, LimitKind::Locals));
     }
-    check_result(alloc, table, functions, f, &slots)
+    check_result(alloc, text, f, &slots)
 }
 
 /// The line of what does not stand in a prototype.
 #[tactic(auto, unfolding(deputy_types::specs::Functions::wrong_prototype))]
-fn wrong_prototype(
-    alloc: Global,
-    table: &TypeTable,
-    items: &[Item],
-    functions: &Functions,
-    h: &Head,
-) -> Result<Option<u32>, Memory>
-    ensures { IfOk result (λ line. line ≡ spec.wrong_prototype (text table.now items.now functions.now) h.now) }
+fn wrong_prototype(alloc: Global, text: &Text<'_>, h: &Head) -> Result<Option<u32>, Memory>
+    ensures { IfOk result (λ line. line ≡ spec.wrong_prototype text.now h.now) }
 {
-    if head_stands(alloc, table, items, functions, h)? {
-        let shapes = parameter_shapes(alloc, table, h.params.as_slice())?;
+    if head_stands(alloc, text, h)? {
+        let shapes = parameter_shapes(alloc, text.table, h.params.as_slice())?;
         Ok(wrong_in_prototype(shapes.as_slice(), h))
     } else {
         Ok(Some(h.line))
@@ -192,40 +147,36 @@ fn wrong_prototype(
 #[tactic(auto, using(crate::proofs::ItemSteps::function_done, crate::proofs::ItemSteps::function_refused))]
 fn check_next(
     alloc: Global,
-    table: &TypeTable,
-    items: &[Item],
-    functions: &Functions,
+    text: &Text<'_>,
     f: &Function,
     done: Items<CheckedFn>,
 ) -> Result<Items<CheckedFn>, RuleRefusal>
     requires short { IsShortFunction f.now }
-    requires laid { IsLaidOut table.now items.now }
-    ensures { Steps (text table.now items.now functions.now) (kinds.Function f.now) done result }
+    requires laid { IsLaidOut text.now.table text.now.items }
+    ensures { Steps text.now (kinds.Function f.now) done result }
 {
     let mut more = done;
     let k = more.len();
-    more.push(check_function(alloc, table, items, functions, k, f)?)?;
+    more.push(check_function(alloc, text, k, f)?)?;
     Ok(more)
 }
 
 /// An item, behind the functions that are done.
 fn check_item(
     alloc: Global,
-    table: &TypeTable,
-    items: &[Item],
-    functions: &Functions,
+    text: &Text<'_>,
     item: &Item,
     done: Items<CheckedFn>,
 ) -> Result<Items<CheckedFn>, RuleRefusal>
     requires short { IsShortItem item.now }
-    requires laid { IsLaidOut table.now items.now }
-    ensures { Steps (text table.now items.now functions.now) item.now done result }
+    requires laid { IsLaidOut text.now.table text.now.items }
+    ensures { Steps text.now item.now done result }
 {
     match item {
         Item::Struct(_) => Ok(done),
         Item::Global(_) => Ok(done),
-        Item::Function(f) => check_next(alloc, table, items, functions, f, done),
-        Item::Prototype(h) => match wrong_prototype(alloc, table, items, functions, h)? {
+        Item::Function(f) => check_next(alloc, text, f, done),
+        Item::Prototype(h) => match wrong_prototype(alloc, text, h)? {
             Some(line) => Err(RuleRefusal::NoRule(line)),
             None => Ok(done),
         },
@@ -233,34 +184,28 @@ fn check_item(
 }
 
 /// The items in turn.
-fn check_items(
-    alloc: Global,
-    table: &TypeTable,
-    items: &[Item],
-    functions: &Functions,
-) -> Result<Items<CheckedFn>, RuleRefusal>
-    requires short { All IsShortItem items.now }
-    requires laid { IsLaidOut table.now items.now }
-    ensures { IsChecked (spec.check_items (text table.now items.now functions.now) items.now []) result }
+fn check_items(alloc: Global, text: &Text<'_>) -> Result<Items<CheckedFn>, RuleRefusal>
+    requires short { All IsShortItem text.now.items }
+    requires laid { IsLaidOut text.now.table text.now.items }
+    ensures { IsChecked (spec.check_items text.now text.now.items []) result }
 {
     let mut done = Items::new(alloc);
-    for item in items {
-        done = check_item(alloc, table, items, functions, item, done)?;
+    for item in text.items {
+        done = check_item(alloc, text, item, done)?;
     }
     Ok(done)
 }
 
-/// Checks a unit whose declarations are laid out in `types`: exactly the checked unit that the rules derive. `NoRule` with the line of the first head, parameter, local
+/// Checks a unit, of whose declarations `types` is the table: exactly the checked unit that the rules derive. `NoRule` with the line of the first head, parameter, local
 /// or statement in text order that no rule derives, and `Limit(line, Locals)` at the head of a function with more than 128 slots, `NoRule` first on the same head.
-#[tactic(auto, using(crate::proofs::ShortItems::items_short), unfolding(deputy_types::specs::Functions::checked, deputy_types::specs::Functions::text_of))]
+#[tactic(auto, using(crate::proofs::LaidOut::laid_out, crate::proofs::ShortItems::items_short), unfolding(deputy_types::specs::Functions::checked, deputy_types::specs::Functions::text_of))]
 pub fn check_unit(alloc: Global, unit: &Unit, types: &TypeTable) -> Result<CheckedUnit, RuleRefusal>
     requires short { IsShortUnit unit.now }
-    requires laid { IsLaidOut types.now unit.now.items }
+    requires laid { layout unit.now ≡ Ok types.now }
     ensures { IsChecked (spec.checked types.now unit.now) result }
 {
-    let items = unit.items.as_slice();
-    let table = functions_of(alloc, types, items)?;
-    let functions = check_items(alloc, types, items, &table)?;
+    let text = Text::new(alloc, types, unit.items.as_slice())?;
+    let functions = check_items(alloc, &text)?;
     let image = copy_blocks(alloc, types.image())?;
     let structs = copy_structs(alloc, types.structs())?;
     let elems = copy_shapes(alloc, types.elems())?;

@@ -20,3 +20,4 @@ pub mod DeclaredUnits
 pub mod FoundKeys
 pub mod ShortUnits
 pub mod Refusals
+pub mod Bodies

@@ -1,5 +1,5 @@
 -- In a short unit the statements of a function are refused only on the line of a simple statement or a condition that no rule derives.
-use Rattle.std.proofs.Common.{◌≡◌, ◌⊎◌, inl, inr, ℕ, List, [], ◌∷◌, ◌++◌, map, Option, Some, None, option_map, Result, Ok, Err, All, refl, sym, ap, ◌∙◌, subst}
+use Rattle.std.proofs.Common.{◌≡◌, ◌⊎◌, inl, inr, ℕ, List, [], ◌∷◌, ◌++◌, map, Option, Some, None, Result, Ok, Err, All, refl, sym, ap, ◌∙◌, subst}
 use Rattle.std.proofs.lemmas.List.Elements.{All-nil, All-cons, All-head, All-tail}
 use Rattle.c_tree.specs.declared.expressions.Expr.{Expr}
 use Rattle.c_tree.specs.declared.items.Function.{Function}
@@ -25,7 +25,7 @@ use Rattle.deputy_types.specs.Checking.{Fault, NoRule, Checking, with_outcome, a
 use Rattle.deputy_types.specs.Context.{Context}
 use Rattle.deputy_types.specs.Functions.{text_of, context_of, no_checks, finished, check_statements}
 use Rattle.deputy_types.specs.Numbering.{Numbered, numbered}
-use Rattle.deputy_types.specs.Statements.{Home, numbered_at, with_numbers, simple, condition, single, if_level, while_level, otherwise, body_level, statement_level, check_statement, check_body, act, controlling, statement_context}
+use Rattle.deputy_types.specs.Statements.{Home, numbered_at, with_numbers, simple, condition, single, if_level, while_level, body_level, statement_level, check_statement, check_body, act, controlling, statement_context}
 use Rattle.deputy_types.specs.Table.{Table}
 use Rattle.light_checks.specs.ShortActions.{HasShortParts}
 use Rattle.light_checks.specs.ShortUnits.{IsFunctionOf, home_of}
@@ -42,7 +42,7 @@ line_fault : {A : Type 0} (line : ℕ) (b : Numbered) (o : Option (A × List Ask
 line_fault line b None e h = cc
 line_fault line b (Some r) e h = numbers_fault line r.0 (numbered r.1 b) e h
 
-fault_same : {A : Type 0} (d e : Fault) → ◌≡◌ {A = Result A Fault} (Err d) (Err e) → d ≡ e
+pub fault_same : {A : Type 0} (d e : Fault) → ◌≡◌ {A = Result A Fault} (Err d) (Err e) → d ≡ e
 fault_same d e h = cc
 
 -- one after another: the first is refused, or the second behind it

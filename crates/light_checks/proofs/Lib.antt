@@ -21,3 +21,5 @@ pub mod FoundKeys
 pub mod ShortUnits
 pub mod Refusals
 pub mod Bodies
+pub mod Units
+mod Examples

@@ -1,4 +1,5 @@
 pub mod Lightness
+pub mod Refused
 pub mod ShortActions
 pub mod ShortUnits
 pub mod Standing

@@ -23,7 +23,9 @@ pub record IsStanding (u : TextUnit) (t : Table) : Type 0 where
 
 -- the fault is that of a function's head or result, of a prototype, or of the line of what no rule derives
 pub data IsRefused (u : TextUnit) (t : Table) (e : Fault) : Type 0 where
-  head : (f : Function) (k : ℕ) → Contains u.items (item.Function f) → function_stands (text_of t u.items) k f.head ≡ false → e ≡ NoRule f.head.line → IsRefused u t e
+  head : (f : Function) (k : ℕ) → Contains u.items (item.Function f) → function_stands (text_of t u.items) k f.head ≡ false
+      → e ≡ NoRule f.head.line → IsRefused u t e
   no_result : (f : Function) → Contains u.items (item.Function f) → result_of t f.head ≡ None → e ≡ NoRule f.head.line → IsRefused u t e
   prototype : (h : Head) (line : ℕ) → Contains u.items (item.Prototype h) → wrong_prototype (text_of t u.items) h ≡ Some line → e ≡ NoRule line → IsRefused u t e
-  unruled : (f : Function) (r : Returned) → Contains u.items (item.Function f) → result_of t f.head ≡ Some r → Tells (UnruledIn (context_of t f) (home_of u t r) f.body) e → IsRefused u t e
+  unruled : (f : Function) (r : Returned) → Contains u.items (item.Function f) → result_of t f.head ≡ Some r → Tells (UnruledIn (context_of t f) (home_of u t r) f.body) e
+      → IsRefused u t e

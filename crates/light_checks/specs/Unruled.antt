@@ -14,17 +14,21 @@ use Rattle.deputy_types.specs.Statements.{Home, act, controlling, statement_cont
 mutual
   -- in a statement
   pub data Unruled (ctx : Context) (home : Home) : Stmt → ℕ → Type 0 where
-    simple : {s : Simple} {line : ℕ} (before : Numbered) → line ≡ s.line → act (statement_context ctx s.line before) home s.action [] ≡ None → Unruled ctx home (statement.Simple s) line
-    if_condition : {line : ℕ} {e : Expr} {a : Body} (o : Option Body) (before : Numbered) → controlling (statement_context ctx line before) e [] ≡ None → Unruled ctx home (statement.If line e a o) line
+    simple : {s : Simple} {line : ℕ} (before : Numbered) → line ≡ s.line → act (statement_context ctx s.line before) home s.action [] ≡ None
+        → Unruled ctx home (statement.Simple s) line
+    if_condition : {line : ℕ} {e : Expr} {a : Body} (o : Option Body) (before : Numbered) → controlling (statement_context ctx line before) e [] ≡ None
+        → Unruled ctx home (statement.If line e a o) line
     if_holds : {n line : ℕ} {e : Expr} {a : Body} (o : Option Body) → UnruledBody ctx home a line → Unruled ctx home (statement.If n e a o) line
     if_fails : {n line : ℕ} {e : Expr} {a : Body} (c : Body) → UnruledBody ctx home c line → Unruled ctx home (statement.If n e a (Some c)) line
-    while_condition : {line : ℕ} {e : Expr} {a : Body} (before : Numbered) → controlling (statement_context ctx line before) e [] ≡ None → Unruled ctx home (statement.While line e a) line
+    while_condition : {line : ℕ} {e : Expr} {a : Body} (before : Numbered) → controlling (statement_context ctx line before) e [] ≡ None
+        → Unruled ctx home (statement.While line e a) line
     while_body : {n line : ℕ} {e : Expr} {a : Body} → UnruledBody ctx home a line → Unruled ctx home (statement.While n e a) line
 
   -- in a body
   pub data UnruledBody (ctx : Context) (home : Home) : Body → ℕ → Type 0 where
     block : {ss : List Stmt} {line : ℕ} → UnruledIn ctx home ss line → UnruledBody ctx home (body.Block ss) line
-    single : {s : Simple} {line : ℕ} (before : Numbered) → line ≡ s.line → act (statement_context ctx s.line before) home s.action [] ≡ None → UnruledBody ctx home (body.Single s) line
+    single : {s : Simple} {line : ℕ} (before : Numbered) → line ≡ s.line → act (statement_context ctx s.line before) home s.action [] ≡ None
+        → UnruledBody ctx home (body.Single s) line
 
   -- in one of these statements
   pub data UnruledIn (ctx : Context) (home : Home) : List Stmt → ℕ → Type 0 where

@@ -20,3 +20,6 @@ pub mod DeclaredUnits
 pub mod FoundKeys
 pub mod ShortUnits
 pub mod Refusals
+pub mod Bodies
+pub mod Units
+mod Examples

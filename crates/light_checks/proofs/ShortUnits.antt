@@ -228,7 +228,7 @@ result_by_is t (result.Base b) stars r sizes words h =
     (λ x e. shape_roled t.types t.extents Safe no_siblings 0 (record { base = b; stars = stars }) x sizes words e) h
 
 -- the functions of a text
-behind : (x y : Item) (xs : List Item) → Contains xs x → Contains (y ∷ xs) x
+pub behind : (x y : Item) (xs : List Item) → Contains xs x → Contains (y ∷ xs) x
 behind x y xs c = (c.0 + 1, (let e = c.1 in omega arith), later c.0 c.2)
   where
     later : (k : ℕ) → slice_index_or xs k x ≡ x → slice_index_or (y ∷ xs) (k + 1) x ≡ x

@@ -16,13 +16,15 @@ ghost use Rattle.deputy_types.specs.Checking.{Fault};
 ghost use Rattle.deputy_types.specs.Context.{Context};
 ghost use Rattle.deputy_types.specs.Expressions.{derive};
 ghost use Rattle.deputy_types.specs.Numbering.{Numbered, numbered};
-ghost use Rattle.deputy_types.specs.Functions.{context_of};
+ghost use Rattle.deputy_types.specs.Functions.{check_statements, checked, context_of, text_of};
 ghost use Rattle.deputy_types.specs.Statements.{Home, act, condition, controlling, simple, statement_context};
 ghost use Rattle.deputy_types.specs.Table.{Table};
 ghost use Rattle.deputy_types.specs.UnitLayout.{layout};
 ghost use Rattle.light_checks.specs.Lightness.{IsLightCheck};
+ghost use Rattle.light_checks.specs.Refused.{IsRefused, IsStanding};
 ghost use Rattle.light_checks.specs.ShortActions.{HasShortParts};
 ghost use Rattle.light_checks.specs.ShortUnits.{IsFunctionOf, home_of};
+ghost use Rattle.light_checks.specs.Unruled.{Tells, UnruledIn};
 ghost use Rattle.light_checks.specs.Within.{IsContext, IsHome, IsTable};
 
 /// Light checks have numbers, whatever checks and atoms the function has before them.
@@ -58,4 +60,15 @@ pub fn a_refused_statement_has_no_rule()
 /// And so is a condition.
 pub fn a_refused_condition_has_no_rule()
     ensures { (u : TextUnit) (t : Table) (f : Function) (r : Returned) (line : ℕ) (x : Expr) (before : Numbered) (e : Fault) → IsFunctionOf u t f r → IsShortExpr x → condition (context_of t f) line x before ≡ Err e → controlling (statement_context (context_of t f) line before) x [] ≡ None }
+{}
+
+/// And so the statements of a function are refused only on the line of a simple statement or a condition among them, with `NoRule`, that no rule derives.
+pub fn a_refused_body_has_a_line_without_rule()
+    ensures { (u : TextUnit) (t : Table) (f : Function) (r : Returned) (e : Fault) → IsFunctionOf u t f r → check_statements (text_of t u.items) f r (context_of t f) ≡ Err e → Tells (UnruledIn (context_of t f) (home_of u t r) f.body) e }
+{}
+
+/// A short unit whose declarations stand is refused only for a function's head or result, for a prototype, or on the line of a simple statement or a condition that
+/// no rule derives.
+pub fn a_refused_unit_has_its_reason()
+    ensures { (u : TextUnit) (t : Table) (e : Fault) → IsStanding u t → checked t u ≡ Err e → IsRefused u t e }
 {}

@@ -1,9 +1,16 @@
-//! What no clause says: that the rules are those of the language, by texts that were worked by hand after the rules.
+//! What no clause says: that the rules are those of the language, by tables of texts with what becomes of each, worked by hand after the rules; and that
+//! there is an answer where memory is ample.
+mod atoms;
 mod bodies;
+mod calls;
 mod checks;
+mod declarations;
+mod expressions;
 mod forms;
+mod layouts;
+mod limits;
 mod shapes;
 mod slots;
-mod texts;
+mod statements;
 mod tables;
-mod expressions;
+mod texts;

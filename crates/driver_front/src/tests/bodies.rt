@@ -87,13 +87,21 @@ fn write_operand(
     out.push_str(")")
 }
 
-fn write_argument(out: &mut String, names: &[String], argument: &Argument) -> Result<(), AllocError> {
+fn write_argument(
+    out: &mut String,
+    names: &[String],
+    argument: &Argument,
+) -> Result<(), AllocError> {
     write_scalar(out, argument.scalar)?;
     out.push_str(" ")?;
     write_form(out, names, argument.value.get())
 }
 
-fn write_arguments(out: &mut String, names: &[String], arguments: &[Argument]) -> Result<(), AllocError> {
+fn write_arguments(
+    out: &mut String,
+    names: &[String],
+    arguments: &[Argument],
+) -> Result<(), AllocError> {
     let mut is_first = true;
     for argument in arguments {
         if !is_first {
@@ -105,7 +113,11 @@ fn write_arguments(out: &mut String, names: &[String], arguments: &[Argument]) -
     Ok(())
 }
 
-fn write_optional_target(out: &mut String, names: &[String], target: Option<Target>) -> Result<(), AllocError> {
+fn write_optional_target(
+    out: &mut String,
+    names: &[String],
+    target: Option<Target>,
+) -> Result<(), AllocError> {
     match target {
         Some(target) => write_target(out, names, target),
         None => Ok(()),

@@ -82,12 +82,7 @@ fn write_cond(out: &mut String, atoms: &Atoms<'_>, cond: &Cond) -> Result<(), Al
                 write_lin(out, atoms, byte)?;
             }
         }
-        Cond::Kept {
-            tag,
-            new,
-            at,
-            size,
-        } => {
+        Cond::Kept { tag, new, at, size } => {
             out.push_str("old ")?;
             write_lin(out, atoms, tag)?;
             out.push_str(" new ")?;

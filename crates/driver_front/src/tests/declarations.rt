@@ -129,7 +129,8 @@ struct s { int a; };~struct s g = 0;
 ";
 
 /// Annotations that are constant: of globals, elements, arms, results, and stars that are not the last.
-const CONSTANT_ANNOTATIONS: &str = "int *p; int *safe q; int *sentinel r; int *count(4) s; int *count(-1) t; int *count(2 - 3 + 4) u; char *nullterm v; unsigned char *nullterm w;
+const CONSTANT_ANNOTATIONS: &str =
+    "int *p; int *safe q; int *sentinel r; int *count(4) s; int *count(-1) t; int *count(2 - 3 + 4) u; char *nullterm v; unsigned char *nullterm w;
   accepted
 int **a; int *count(2) *b; int *sentinel *count(3) c; char *nullterm *d; char *nullterm *count(4) e[5];
   accepted
@@ -192,7 +193,8 @@ int f(void) {~signed char *nullterm p; return 0; }
 ";
 
 /// `count` of integers beside the pointer.
-const COUNTS: &str = "struct s { int *count(n) p; int n; short m; char *count(3*m - n + 2) q; unsigned char k; int *count(-k) r; };
+const COUNTS: &str =
+    "struct s { int *count(n) p; int n; short m; char *count(3*m - n + 2) q; unsigned char k; int *count(-k) r; };
   accepted
 struct s {~int *count(n) p; };
   NoDecl(2)
@@ -241,7 +243,8 @@ int f(void) { int n;~int *count(n + k) p; return 0; }
 ";
 
 /// `bound` by pointers beside the pointer.
-const BOUNDS: &str = "struct s { int *bound(a, b) p; int *a; int *count(n) b; int n; int *bound(a + n, b - 2*n) q; int *bound(q, a + 4) r; };
+const BOUNDS: &str =
+    "struct s { int *bound(a, b) p; int *a; int *count(n) b; int n; int *bound(a + n, b - 2*n) q; int *bound(q, a + 4) r; };
   accepted
 struct s {~int *bound(p, p) p; };
   NoDecl(2)
@@ -296,7 +299,8 @@ int *a; int f(void) {~int *bound(a, a) p; return 0; }
 ";
 
 /// Unions and their tags.
-const UNIONS: &str = "struct s { char t; union { int a when (t == 0); short b when (t == 255); int *c when (t == 'a'); struct s *d when (t == 1); } u; };
+const UNIONS: &str =
+    "struct s { char t; union { int a when (t == 0); short b when (t == 255); int *c when (t == 'a'); struct s *d when (t == 1); } u; };
   accepted
 struct s { union {~int a when (t == 1); } u; int t; };
   NoDecl(2)
@@ -496,33 +500,57 @@ fn names_are_distinct(rt: HostRuntime) -> Result<(), Fail> {
 
 #[test]
 fn structs_and_arrays_are_complete(rt: HostRuntime) -> Result<(), Fail> {
-    assert_eq!(rt; wrong_texts(rt.alloc(), Show::Verdict, STRUCTS)?.as_str(), "");
-    assert_eq!(rt; wrong_texts(rt.alloc(), Show::Verdict, ARRAYS)?.as_str(), "");
+    assert_eq!(rt;
+        wrong_texts(rt.alloc(), Show::Verdict, STRUCTS)?.as_str(),
+        ""
+    );
+    assert_eq!(rt;
+        wrong_texts(rt.alloc(), Show::Verdict, ARRAYS)?.as_str(),
+        ""
+    );
     Ok(())
 }
 
 #[test]
 fn annotations_name_what_they_may(rt: HostRuntime) -> Result<(), Fail> {
-    assert_eq!(rt; wrong_texts(rt.alloc(), Show::Verdict, CONSTANT_ANNOTATIONS)?.as_str(), "");
-    assert_eq!(rt; wrong_texts(rt.alloc(), Show::Verdict, COUNTS)?.as_str(), "");
-    assert_eq!(rt; wrong_texts(rt.alloc(), Show::Verdict, BOUNDS)?.as_str(), "");
+    assert_eq!(rt;
+        wrong_texts(rt.alloc(), Show::Verdict, CONSTANT_ANNOTATIONS)?.as_str(),
+        ""
+    );
+    assert_eq!(rt;
+        wrong_texts(rt.alloc(), Show::Verdict, COUNTS)?.as_str(),
+        ""
+    );
+    assert_eq!(rt;
+        wrong_texts(rt.alloc(), Show::Verdict, BOUNDS)?.as_str(),
+        ""
+    );
     Ok(())
 }
 
 #[test]
 fn unions_have_tags(rt: HostRuntime) -> Result<(), Fail> {
-    assert_eq!(rt; wrong_texts(rt.alloc(), Show::Verdict, UNIONS)?.as_str(), "");
+    assert_eq!(rt;
+        wrong_texts(rt.alloc(), Show::Verdict, UNIONS)?.as_str(),
+        ""
+    );
     Ok(())
 }
 
 #[test]
 fn heads_of_one_name_agree(rt: HostRuntime) -> Result<(), Fail> {
-    assert_eq!(rt; wrong_texts(rt.alloc(), Show::Verdict, PROTOTYPES)?.as_str(), "");
+    assert_eq!(rt;
+        wrong_texts(rt.alloc(), Show::Verdict, PROTOTYPES)?.as_str(),
+        ""
+    );
     Ok(())
 }
 
 #[test]
 fn the_first_line_is_named(rt: HostRuntime) -> Result<(), Fail> {
-    assert_eq!(rt; wrong_texts(rt.alloc(), Show::Verdict, FIRST_LINES)?.as_str(), "");
+    assert_eq!(rt;
+        wrong_texts(rt.alloc(), Show::Verdict, FIRST_LINES)?.as_str(),
+        ""
+    );
     Ok(())
 }

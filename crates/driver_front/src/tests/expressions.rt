@@ -1062,7 +1062,10 @@ fn pointers_are_followed_under_their_checks(rt: HostRuntime) -> Result<(), Fail>
 #[test]
 fn elements_lie_within_their_bounds(rt: HostRuntime) -> Result<(), Fail> {
     assert_eq!(rt; wrong_rows(rt.alloc(), &CHECKS, ELEMENTS)?.as_str(), "");
-    assert_eq!(rt; wrong_rows(rt.alloc(), &CHECKS, TEXT_ELEMENTS)?.as_str(), "");
+    assert_eq!(rt;
+        wrong_rows(rt.alloc(), &CHECKS, TEXT_ELEMENTS)?.as_str(),
+        ""
+    );
     Ok(())
 }
 

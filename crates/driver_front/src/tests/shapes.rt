@@ -74,14 +74,22 @@ fn write_struct(out: &mut String, shape: &StructShape) -> Result<(), AllocError>
         out.push_str(";")?;
     }
     for part in shape.unions.as_slice() {
-        write!(out, " union {} of {} by m{};", part.offset, part.size, part.tag)?;
+        write!(
+            out,
+            " union {} of {} by m{};",
+            part.offset, part.size, part.tag
+        )?;
     }
     Ok(())
 }
 
 /// A block of the image: its base, its elements, and its bytes up to the last that is not 0.
 fn write_block(out: &mut String, block: &ImageBlock) -> Result<(), AllocError> {
-    write!(out, "block {}: e{}*{} of {}", block.base, block.elem, block.count, block.size)?;
+    write!(
+        out,
+        "block {}: e{}*{} of {}",
+        block.base, block.elem, block.count, block.size
+    )?;
     if block.nullterm {
         out.push_str(" nullterm")?;
     }
@@ -120,6 +128,21 @@ pub fn write_table(out: &mut String, table: &TypeTable) -> Result<(), AllocError
     for block in table.image() {
         out.push_str("  ")?;
         write_block(out, block)?;
+        out.push_str("\n")?;
+    }
+    Ok(())
+}
+
+/// The structs of a table, each on a line of its own: its bytes, the offsets of its members, and the offset and the bytes of each union.
+pub fn write_offsets(out: &mut String, structs: &[StructShape]) -> Result<(), AllocError> {
+    for shape in structs {
+        write!(out, "  {}:", shape.size)?;
+        for member in shape.members.as_slice() {
+            write!(out, " {}", member.offset)?;
+        }
+        for part in shape.unions.as_slice() {
+            write!(out, "; {} of {}", part.offset, part.size)?;
+        }
         out.push_str("\n")?;
     }
     Ok(())

@@ -6,7 +6,8 @@ use std::test::Fail;
 /// The blocks of the globals are `g` at 16, `s` at 32, `a` at 64, `text` at 80, `gi` at 96, `gp` at 112, `gt` at 128, `gs` at 144, `gc` at 160, `sb` at 176 up to 216, and the
 /// first string lies at 224. In `struct v`, of 16 bytes: the tag `t` at 0 and its union at 4, the tag `k` at 8 and its union at 12. In `struct b`, of 20 bytes: `len` at 0,
 /// `buf` at 4, `cur` at 8, `off` at 12, `far` at 16.
-const BEFORE: &str = "struct v { int t; union { int n when (t == 1); int *safe p when (t == 2); char c when (t == -3); } u; \
+const BEFORE: &str =
+    "struct v { int t; union { int n when (t == 1); int *safe p when (t == 2); char c when (t == -3); } u; \
 unsigned char k; union { int m when (k == 0); int *count(2) r when (k == 255); } w; }; \
 struct b { int len; int *count(len) buf; int *bound(buf, buf + len) cur; int off; int *count(2*len - off) far; }; \
 struct v g; struct b s; int a[4]; char text[8]; int gi; int *safe gp; char *nullterm gt; short gs; int *count(3) gc; struct b sb[2];
@@ -776,8 +777,14 @@ if (*p) { x = 1 / x; } else { while (*t) kfree(q); }
 
 #[test]
 fn an_assigned_local_keeps_the_types_that_name_it(rt: HostRuntime) -> Result<(), Fail> {
-    assert_eq!(rt; wrong_rows(rt.alloc(), &CHECKS, INTEGER_LOCALS)?.as_str(), "");
-    assert_eq!(rt; wrong_rows(rt.alloc(), &CHECKS, POINTER_LOCALS)?.as_str(), "");
+    assert_eq!(rt;
+        wrong_rows(rt.alloc(), &CHECKS, INTEGER_LOCALS)?.as_str(),
+        ""
+    );
+    assert_eq!(rt;
+        wrong_rows(rt.alloc(), &CHECKS, POINTER_LOCALS)?.as_str(),
+        ""
+    );
     Ok(())
 }
 
@@ -791,6 +798,9 @@ fn an_assigned_place_keeps_the_types_that_name_it(rt: HostRuntime) -> Result<(),
 #[test]
 fn other_statements_have_the_checks_of_their_expressions(rt: HostRuntime) -> Result<(), Fail> {
     assert_eq!(rt; wrong_rows(rt.alloc(), &CHECKS, OTHERS)?.as_str(), "");
-    assert_eq!(rt; wrong_rows(rt.alloc(), &FORMS, STATEMENT_FORMS)?.as_str(), "");
+    assert_eq!(rt;
+        wrong_rows(rt.alloc(), &FORMS, STATEMENT_FORMS)?.as_str(),
+        ""
+    );
     Ok(())
 }

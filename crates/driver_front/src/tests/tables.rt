@@ -1,5 +1,5 @@
 //! Tables of texts, each with what becomes of it.
-use super::texts::{View, laid, seen, verdict};
+use super::texts::{View, laid, offsets, seen, verdict};
 use std::alloc::{AllocError, Global};
 use std::fmt::Write;
 
@@ -62,6 +62,8 @@ pub enum Show {
     Verdict,
     /// Its layout.
     Layout,
+    /// Where the members of its structs lie.
+    Offsets,
 }
 
 /// A text that is written in one line, where `~` stands for a line feed.
@@ -89,6 +91,7 @@ fn settle_text(
     let found = match show {
         Show::Verdict => format!(in alloc; "  {}\n", verdict(alloc, text.as_str())?)?,
         Show::Layout => laid(alloc, text.as_str())?,
+        Show::Offsets => offsets(alloc, text.as_str())?,
     };
     if found.as_str() != wanted {
         out.push_str(row)?;

@@ -1,8 +1,8 @@
 //! What becomes of a text: read, laid out and checked.
 use super::bodies::write_statement;
 use super::checks::write_checks;
-use super::forms::write_form;
-use super::shapes::{write_shape, write_table};
+use super::forms::{write_form, write_scalar};
+use super::shapes::{write_offsets, write_shape, write_table};
 use super::slots::slot_names;
 use c_decl::read_unit;
 use c_token::{ReadRefusal, tokens};
@@ -71,7 +71,7 @@ pub enum View {
     Checks,
     /// Its statements but the last, the added `return`.
     Body,
-    /// The shapes of its slots.
+    /// How many parameters it has, its result, and the shapes of its slots.
     Slots,
     /// Its atoms by number.
     Atoms,
@@ -100,6 +100,9 @@ fn write_view(
             }
         }
         View::Slots => {
+            write!(out, "  {} parameters, result ", checked.params)?;
+            write_scalar(out, checked.result)?;
+            out.push_str("\n")?;
             for shape in checked.slots.as_slice() {
                 out.push_str("  ")?;
                 write_shape(out, shape)?;
@@ -118,7 +121,13 @@ fn write_view(
 }
 
 /// One view of the function with this number, or why the text is refused. `NoRule` on this line is written `no rule`.
-pub fn seen(alloc: Global, text: &str, number: usize, view: View, line: u32) -> Result<String, AllocError> {
+pub fn seen(
+    alloc: Global,
+    text: &str,
+    number: usize,
+    view: View,
+    line: u32,
+) -> Result<String, AllocError> {
     let mut out = String::new(alloc);
     match outcome(alloc, text) {
         Outcome::Unread(refusal) => writeln!(out, "  {refusal:?}")?,
@@ -132,7 +141,10 @@ pub fn seen(alloc: Global, text: &str, number: usize, view: View, line: u32) -> 
         }
         Outcome::Underived(refusal) => writeln!(out, "  {refusal:?}")?,
         Outcome::Checked(unit, checked) => {
-            match (function(&unit, number), checked.functions.as_slice().get(number)) {
+            match (
+                function(&unit, number),
+                checked.functions.as_slice().get(number),
+            ) {
                 (Some(f), Some(g)) => write_view(alloc, &mut out, view, line, f, g)?,
                 _ => out.push_str("  no such function\n")?,
             }
@@ -149,6 +161,19 @@ pub fn laid(alloc: Global, text: &str) -> Result<String, AllocError> {
         Ok(unit) => match layouts(alloc, &unit) {
             Err(refusal) => writeln!(out, "  {refusal:?}")?,
             Ok(table) => write_table(&mut out, &table)?,
+        },
+    }
+    Ok(out)
+}
+
+/// Where the members of a text's structs lie, or why it is refused.
+pub fn offsets(alloc: Global, text: &str) -> Result<String, AllocError> {
+    let mut out = String::new(alloc);
+    match unit_of(alloc, text.as_bytes()) {
+        Err(refusal) => writeln!(out, "  {refusal:?}")?,
+        Ok(unit) => match layouts(alloc, &unit) {
+            Err(refusal) => writeln!(out, "  {refusal:?}")?,
+            Ok(table) => write_offsets(&mut out, table.structs())?,
         },
     }
     Ok(out)

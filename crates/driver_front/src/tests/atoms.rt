@@ -16,14 +16,24 @@ int f(int *count(n) p, int n, char *nullterm t, struct v *safe vp, struct b *saf
 const NUMBERED: &str = "x = p[n];
   p
   n
+  l
+  i32:p[4*n]
+  x
 x = *p;
   p
   n
+  l
+  i32:*p
+  x
 x = q[x + 1];
   q
   q.low
   i32(x + 1)
   q.high
+  l
+  n
+  i32:q[4*i32(x + 1)]
+  x
 r = q;
   q.low
   y

@@ -1,4 +1,7 @@
 //! What becomes of a text: read, laid out and checked.
+ghost use Rattle.std.specs.Prelude.{IfOk};
+ghost use Rattle.c_tree.specs.ShortUnit.{IsShortUnit};
+
 use super::bodies::write_statement;
 use super::checks::write_checks;
 use super::forms::{write_form, write_scalar};
@@ -24,7 +27,9 @@ pub enum Outcome {
 }
 
 /// The unit of a text.
-fn unit_of(alloc: Global, text: &[u8]) -> Result<Unit, ReadRefusal> {
+fn unit_of(alloc: Global, text: &[u8]) -> Result<Unit, ReadRefusal>
+    ensures { IfOk result (λ unit. IsShortUnit unit) }
+{
     if text.len() > 1_048_576 {
         return Err(ReadRefusal::Memory);
     }
@@ -32,7 +37,9 @@ fn unit_of(alloc: Global, text: &[u8]) -> Result<Unit, ReadRefusal> {
     read_unit(alloc, words.as_slice())
 }
 
-fn checked(alloc: Global, unit: Unit) -> Outcome {
+fn checked(alloc: Global, unit: Unit) -> Outcome
+    requires { IsShortUnit unit.now }
+{
     let types = match layouts(alloc, &unit) {
         Ok(types) => types,
         Err(refusal) => return Outcome::Undeclared(refusal),

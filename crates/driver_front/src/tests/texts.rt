@@ -50,7 +50,7 @@ fn checked(alloc: Global, unit: Unit) -> Outcome
     }
 }
 
-pub fn outcome(alloc: Global, text: &str) -> Outcome {
+pub fn outcome_of(alloc: Global, text: &str) -> Outcome {
     match unit_of(alloc, text.as_bytes()) {
         Ok(unit) => checked(alloc, unit),
         Err(refusal) => Outcome::Unread(refusal),
@@ -136,7 +136,7 @@ pub fn seen(
     line: u32,
 ) -> Result<String, AllocError> {
     let mut out = String::new(alloc);
-    match outcome(alloc, text) {
+    match outcome_of(alloc, text) {
         Outcome::Unread(refusal) => writeln!(out, "  {refusal:?}")?,
         Outcome::Undeclared(refusal) => writeln!(out, "  {refusal:?}")?,
         Outcome::Underived(RuleRefusal::NoRule(at)) => {
@@ -189,7 +189,7 @@ pub fn offsets(alloc: Global, text: &str) -> Result<String, AllocError> {
 /// What becomes of a text, in one line.
 pub fn verdict(alloc: Global, text: &str) -> Result<String, AllocError> {
     let mut out = String::new(alloc);
-    match outcome(alloc, text) {
+    match outcome_of(alloc, text) {
         Outcome::Unread(refusal) => write!(out, "{refusal:?}")?,
         Outcome::Undeclared(refusal) => write!(out, "{refusal:?}")?,
         Outcome::Underived(refusal) => write!(out, "{refusal:?}")?,

@@ -6,3 +6,6 @@ mod reading;
 
 pub use causes::Cause;
 pub use reading::{Unread, read_driver};
+
+#[cfg(test)]
+mod tests;

@@ -1,2 +1,4 @@
+pub mod Later
 pub mod Verdict
+pub mod Wanting
 pub mod Reasons

@@ -1,6 +1,6 @@
 //! `Cause`: why a driver text is refused.
 ghost use Rattle.std.specs.Prelude.{◌≡◌};
-ghost use Rattle.driver_front.specs.Verdict.{spelling_of};
+ghost use Rattle.driver_front.specs.Reasons.{spelling_of};
 
 /// Why a driver text is refused, as it is printed.
 #[derive(Clone, Copy, PartialEq, Eq, Debug)]

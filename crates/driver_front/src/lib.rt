@@ -1,11 +1,22 @@
-//! The front of SafeDrive: what becomes of a driver text, accepted or refused with its line and cause.
+//! The front of SafeDrive: what becomes of a driver text, accepted as a checked unit or refused with its line and cause.
 #![tactic(auto)]
 
+mod acceptance;
 mod causes;
+mod later_forms;
+mod later_items;
+mod laws;
 mod reading;
+mod reason;
+mod refusal;
 
+pub use acceptance::accept;
 pub use causes::Cause;
-pub use reading::{Unread, read_driver};
+pub use later_items::item_line;
+pub use laws::one_verdict;
+pub use reading::read_driver;
+pub use reason::Reason;
+pub use refusal::Refusal;
 
 #[cfg(test)]
 mod tests;

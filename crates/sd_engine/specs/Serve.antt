@@ -4,6 +4,7 @@ use Rattle.sd_outside.specs.Sink.{more, IsCut}
 use Rattle.sd_outside.specs.declared.read.TextFault.{TextFault}
 use Rattle.sd_outside.specs.declared.read.TextFault.TheVariants as fault
 use Rattle.driver_front.specs.declared.causes.Cause.{Cause}
+use Rattle.driver_front.specs.Reasons.{IsAccepted, IsRefused}
 use Rattle.sd_engine.specs.declared.status.Status.{Status}
 use Rattle.sd_engine.specs.declared.status.Status.TheVariants as status
 use Rattle.sd_engine.specs.declared.thin_program.Statement.{Statement}
@@ -14,7 +15,7 @@ use Rattle.sd_engine.specs.Command.{CommandWords, run_words, check_words}
 use Rattle.sd_engine.specs.ThinProgram.{no_item, init}
 use Rattle.sd_engine.specs.ThinRun.{number_line, lines_from}
 use Rattle.sd_engine.specs.ThinScenario.{IsScenario}
-use Rattle.sd_engine.specs.Verdict.{IsServedAs, IsRefused, IsAccepted, refusal_line}
+use Rattle.sd_engine.specs.Verdict.{IsServedAs, IsNotRun, refusal_line}
 
 -- the most bytes of a text
 abbrev pub most_bytes : ℕ
@@ -27,7 +28,7 @@ pub data Starts (t : List ℕ) : Stage → List Statement → Type 0 where
 
 -- what a run over these two texts writes, and its status where it is written whole
 pub data RunAnswers (scenario driver : List ℕ) : List ℕ → Status → Type 0 where
-  run_refused : {n : ℕ} {c : Cause} → IsRefused driver n c → RunAnswers scenario driver (refusal_line 1 n c) status.Refused
+  run_refused : {n : ℕ} {c : Cause} → IsNotRun driver n c → RunAnswers scenario driver (refusal_line 1 n c) status.Refused
   bad_scenario : {first : Stage} {list : List Statement} → Starts driver first list → ((events : List Event) → IsScenario scenario events → ⊥)
       → RunAnswers scenario driver (codes "scenario 0\n") status.BadScenario
   run_done : {first : Stage} {list : List Statement} {events : List Event} → Starts driver first list → IsScenario scenario events

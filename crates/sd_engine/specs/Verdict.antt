@@ -1,15 +1,14 @@
 -- What becomes of a driver text under a run, which serves the texts without an item and those of one thin function.
-use Rattle.std.specs.Prelude.{◌≡◌, ℕ, ◌⊎◌, List, [], ◌∷◌, ◌++◌, codes}
+use Rattle.std.specs.Prelude.{◌≡◌, ℕ, List, [], ◌∷◌, ◌++◌, codes}
 use Rattle.std.specs.Fmt.{decimal}
 use Rattle.c_tree.specs.declared.items.Unit.{Unit as TextUnit}
 use Rattle.c_tree.specs.Bytes.{Text}
 use Rattle.c_tree.specs.Units.{Reads}
 use Rattle.driver_front.specs.declared.causes.Cause.{Cause}
 use Rattle.driver_front.specs.declared.causes.Cause.TheVariants as cause
-use Rattle.driver_front.specs.Verdict.{IsUnread, spelling_of}
+use Rattle.driver_front.specs.Reasons.{IsUnreadAt, spelling_of}
 use Rattle.sd_engine.specs.declared.thin_program.Verdict.{Verdict}
 use Rattle.sd_engine.specs.declared.thin_program.Verdict.TheVariants as verdict
-use Rattle.sd_engine.specs.declared.thin_program.Statement.{Statement}
 use Rattle.sd_engine.specs.ThinProgram.{Served, no_item, init, later, program_of}
 
 -- the text is read as a unit of which a run makes this
@@ -18,14 +17,14 @@ pub record IsServedAs (t : Text) (p : Served) : Type 0 where
   pub reads : Reads t unit
   pub program : program_of unit ≡ p
 
--- the text is refused at this line for this cause: it is not read, or an item is not served yet
-pub data IsRefused (t : Text) : ℕ → Cause → Type 0 where
-  unread : {n : ℕ} {c : Cause} → IsUnread t n c → IsRefused t n c
-  not_yet : {n : ℕ} → IsServedAs t (later n) → IsRefused t n cause.Later
+-- a run refuses the text at this line for this cause: it is not read, or an item is not served yet
+pub data IsNotRun (t : Text) : ℕ → Cause → Type 0 where
+  unread : {n : ℕ} {c : Cause} → IsUnreadAt t n c → IsNotRun t n c
+  not_yet : {n : ℕ} → IsServedAs t (later n) → IsNotRun t n cause.Later
 
 -- a verdict of the code is right for the text
 abbrev pub IsVerdict : Text → Verdict → Type 0
-IsVerdict t (verdict.Refused n c) = IsRefused t n c
+IsVerdict t (verdict.Refused n c) = IsNotRun t n c
 IsVerdict t verdict.NoItem = IsServedAs t no_item
 IsVerdict t (verdict.Init statements) = IsServedAs t (init statements.items)
 
@@ -34,10 +33,6 @@ abbrev pub IsVerdictOf : TextUnit → Verdict → Type 0
 IsVerdictOf u (verdict.Refused n c) = (c ≡ cause.Later) × (program_of u ≡ later n)
 IsVerdictOf u verdict.NoItem = program_of u ≡ no_item
 IsVerdictOf u (verdict.Init statements) = program_of u ≡ init statements.items
-
--- the text is accepted: it is without an item, or one function `init`
-abbrev pub IsAccepted : Text → Type 0
-IsAccepted t = IsServedAs t no_item ⊎ ((statements : List Statement) × IsServedAs t (init statements))
 
 -- the line that tells of a refusal: the driver's number, the line and the cause
 abbrev pub refusal_line : ℕ → ℕ → Cause → List ℕ

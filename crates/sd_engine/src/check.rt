@@ -3,13 +3,12 @@ ghost use Rattle.std.specs.Prelude.{◌≡◌, ◌≢◌, ◌<◌, ◌≤◌, �
 ghost use Rattle.sd_outside.specs.Counts.{HasCause, Rose};
 ghost use Rattle.sd_outside.specs.Sink.{IsCut, more};
 ghost use Rattle.sd_engine.specs.Serve.{AreAccepted, AreShort, CheckAnswers, FirstRefused, IsAfterTexts, IsWritten, Writes, accepted_lines, most_bytes};
-ghost use Rattle.sd_engine.specs.Verdict.{IsAccepted, IsRefused, refusal_line as line_of_refusal};
+ghost use Rattle.sd_engine.specs.Verdict.{refusal_line as line_of_refusal};
+ghost use Rattle.driver_front.specs.Reasons.{IsAccepted, IsRefused};
 
-use crate::drivers::verdict_of;
 use crate::status::Status;
-use crate::thin_program::Verdict;
 use crate::thin_run::write_count;
-use driver_front::Cause;
+use driver_front::{Cause, accept};
 use sd_base::Line;
 use sd_outside::{Sink, WriteFault, write_all};
 use std::alloc::{AllocError, Global};
@@ -77,13 +76,16 @@ fn refusal_of(alloc: Global, text: &[u8], driver: usize) -> Result<Option<Refusa
         (IsAccepted text.now)
         (λ refusal. (refusal.driver ≡ driver) × IsRefused text.now refusal.line refusal.cause)) }
 {
-    match verdict_of(alloc, text)? {
-        Verdict::Refused(line, cause) => Ok(Some(Refusal {
-            driver,
-            line,
-            cause,
-        })),
-        Verdict::NoItem | Verdict::Init(_) => Ok(None),
+    match accept(alloc, text) {
+        Ok(_) => Ok(None),
+        Err(refusal) => match refusal.reason() {
+            Some(reason) => Ok(Some(Refusal {
+                driver,
+                line: reason.line,
+                cause: reason.cause,
+            })),
+            None => Err(AllocError),
+        },
     }
 }
 

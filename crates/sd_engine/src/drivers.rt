@@ -1,22 +1,22 @@
-//! What becomes of a driver text: refused with its line and cause, or what a run needs of it.
+//! What becomes of a driver text under a run: refused with its line and cause, or what a run needs of it.
 ghost use Rattle.std.specs.Prelude.{◌≤◌, IfOk, length};
 ghost use Rattle.sd_engine.specs.Serve.{most_bytes};
 ghost use Rattle.sd_engine.specs.Verdict.{IsVerdict};
 
 use crate::thin_program::{Verdict, thin_program};
-use driver_front::{Unread, read_driver};
+use driver_front::read_driver;
 use std::alloc::{AllocError, Global};
 
-/// What becomes of a driver text. The only error is want of memory.
+/// What becomes of a driver text under a run. The only error is want of memory.
 pub fn verdict_of(alloc: Global, text: &[u8]) -> Result<Verdict, AllocError>
     requires { length text.now ≤ most_bytes }
     ensures { IfOk result (λ verdict. IsVerdict text.now verdict) }
 {
     match read_driver(alloc, text) {
         Ok(unit) => thin_program(alloc, &unit),
-        Err(unread) => match unread {
-            Unread::Refused(line, cause) => Ok(Verdict::Refused(line, cause)),
-            Unread::Memory => Err(AllocError),
+        Err(refusal) => match refusal.reason() {
+            Some(reason) => Ok(Verdict::Refused(reason.line, reason.cause)),
+            None => Err(AllocError),
         },
     }
 }

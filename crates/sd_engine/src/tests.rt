@@ -151,18 +151,12 @@ fn a_run_ends_at_the_most_steps(rt: HostRuntime) -> Result<(), Fail> {
 }
 
 #[test]
-fn a_refused_text_is_named_by_line_and_cause(rt: HostRuntime) -> Result<(), Fail> {
+fn a_run_refuses_a_text_by_line_and_cause(rt: HostRuntime) -> Result<(), Fail> {
     let refused = [
-        ("int f(void) { return 1 @ 2; }", "refused 1 1 word\n"),
         (
             "int init(void) {\n  return 2147483648; }",
             "refused 1 2 word\n",
         ),
-        (
-            "\nint a234567890123456789012345678901234567890123456789012345678901234;",
-            "refused 1 2 limit\n",
-        ),
-        ("int f(void) { return 1 }", "refused 1 1 item\n"),
         ("int init(void) { return 0; }\n\n}", "refused 1 3 item\n"),
         ("\nint g;", "refused 1 2 later\n"),
         ("int init(void) { return 0u; }", "refused 1 1 later\n"),
@@ -175,17 +169,29 @@ fn a_refused_text_is_named_by_line_and_cause(rt: HostRuntime) -> Result<(), Fail
     ];
     for (driver, output) in refused {
         assert!(rt; gives(rt.alloc(), &RUN, "", driver, 0, Status::Refused, output)?);
-        assert!(rt;
-            gives(
-                rt.alloc(),
-                &["check", "d"],
-                "",
-                driver,
-                0,
-                Status::Refused,
-                output
-            )?
-        );
+    }
+    Ok(())
+}
+
+#[test]
+fn a_check_refuses_a_text_by_line_and_cause(rt: HostRuntime) -> Result<(), Fail> {
+    let words: [&str; 2] = ["check", "d"];
+    let refused = [
+        ("int f(void) { return 1 @ 2; }", "refused 1 1 word\n"),
+        (
+            "\nint a234567890123456789012345678901234567890123456789012345678901234;",
+            "refused 1 2 limit\n",
+        ),
+        ("int f(void) { return 1 }", "refused 1 1 item\n"),
+        ("int a; int a;\nchar *nullterm s;", "refused 1 2 later\n"),
+        ("int a;\nint a;\nvoid *f(void);", "refused 1 2 type\n"),
+        (
+            "int f(void) {\n  int n; int *q; q = &n; return 0; }",
+            "refused 1 2 rule\n",
+        ),
+    ];
+    for (driver, output) in refused {
+        assert!(rt; gives(rt.alloc(), &words, "", driver, 0, Status::Refused, output)?);
     }
     Ok(())
 }

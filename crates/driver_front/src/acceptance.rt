@@ -1,0 +1,69 @@
+//! `accept`: whether a driver text is accepted.
+ghost use Rattle.std.specs.Prelude.{◌≡◌, ◌≢◌, ◌≤◌, count_by, ◌==◌, Err};
+ghost use Rattle.c_tree.specs.ShortUnit.{IsShortUnit};
+ghost use Rattle.driver_front.specs.Verdict.{Verdict, verdict_of};
+ghost use Rattle.driver_front.specs.Wanting.{type_refusal as of_layout, rule_refusal as of_rules};
+
+use crate::Refusal;
+use crate::later_items::first_later;
+use crate::reading::read_driver;
+use c_tree::Unit;
+use check_numbering::RuleRefusal;
+use checked_tree::CheckedUnit;
+use deputy_types::{TypeRefusal, layouts};
+use rules_stmt::check_unit;
+use std::alloc::Global;
+
+/// What becomes of a driver text: the checked unit that the rules derive from it, or its refusal.
+///
+/// Refused by the first of these that holds: it is not read (`Read`); an item uses what is not served yet (`Later`); a declaration stands against the
+/// rules of declarations or passes a limit (`Decl`); no rule derives what stands in a function, or it has too many locals (`Rule`). `Memory` where
+/// memory is wanting. A text has one verdict (`one_verdict`), so this is the only answer.
+pub fn accept(alloc: Global, text: &[u8]) -> Result<CheckedUnit, Refusal>
+    requires { count_by (λ byte. byte == 10) text.now ≤ 4294967294 }
+    ensures { result ≢ Err Refusal.Memory → Verdict text.now result }
+{
+    match read_driver(alloc, text) {
+        Ok(unit) => accept_unit(alloc, &unit),
+        Err(refusal) => Err(refusal),
+    }
+}
+
+/// What becomes of a text that is read.
+#[tactic(auto, unfolding(crate::specs::Verdict::verdict_of))]
+fn accept_unit(alloc: Global, unit: &Unit) -> Result<CheckedUnit, Refusal>
+    requires { IsShortUnit unit.now }
+    ensures { result ≢ Err Refusal.Memory → result ≡ verdict_of unit.now }
+{
+    if let Some(line) = first_later(unit.items.as_slice()) {
+        return Err(Refusal::Later(line));
+    }
+    let types = match layouts(alloc, unit) {
+        Ok(types) => types,
+        Err(refusal) => return Err(type_refusal(refusal)),
+    };
+    match check_unit(alloc, unit, &types) {
+        Ok(checked) => Ok(checked),
+        Err(refusal) => Err(rule_refusal(refusal)),
+    }
+}
+
+/// A refusal of the declarations.
+fn type_refusal(refusal: TypeRefusal) -> Refusal
+    ensures { result ≡ of_layout refusal }
+{
+    match refusal {
+        TypeRefusal::NoDecl(_) | TypeRefusal::Limit(_, _) => Refusal::Decl(refusal),
+        TypeRefusal::Memory => Refusal::Memory,
+    }
+}
+
+/// A refusal of the rules.
+fn rule_refusal(refusal: RuleRefusal) -> Refusal
+    ensures { result ≡ of_rules refusal }
+{
+    match refusal {
+        RuleRefusal::NoRule(_) | RuleRefusal::Limit(_, _) => Refusal::Rule(refusal),
+        RuleRefusal::Memory => Refusal::Memory,
+    }
+}

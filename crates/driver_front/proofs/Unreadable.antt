@@ -33,6 +33,10 @@ unread-items t words r divided (inr h) some = absurd (some (ap read_refusal h))
 pub read-verdict : (t : Text) (u : TextUnit) (r : Result CheckedUnit Refusal) → Reads t u → (r ≢ Err refusal.Memory → r ≡ verdict_of u) → r ≢ Err refusal.Memory → Verdict t r
 read-verdict t u r reads h some = subst (λ (x : Result CheckedUnit Refusal). Verdict t x) (sym (h some)) (read reads)
 
+-- a refusal as the outcome of a text
+abbrev refused : Refusal → Result CheckedUnit Refusal
+refused r = Err r
+
 -- the verdict of a text that is not read is its refusal
-pub unread-verdict : (t : Text) (r : Refusal) → (r ≢ refusal.Memory → IsUnread t r) → Err {A = CheckedUnit} r ≢ Err refusal.Memory → Verdict t (Err r)
-unread-verdict t r h some = unread (h (λ same. some (ap (λ (x : Refusal). Err {A = CheckedUnit} x) same)))
+pub unread-verdict : (t : Text) (r : Refusal) → (r ≢ refusal.Memory → IsUnread t r) → refused r ≢ refused refusal.Memory → Verdict t (refused r)
+unread-verdict t r h some = unread (h (λ same. some (ap refused same)))

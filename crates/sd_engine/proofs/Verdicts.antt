@@ -31,7 +31,11 @@ not-memory r w told same =
     let none : Some w ≡ None = subst (λ (x : Refusal). Some w ≡ reason_of x) same told in
     cc none
 
-not-memory-either : (r : Refusal) (w : Reason) → Some w ≡ reason_of r → Err {A = CheckedUnit} r ≢ Err refusal.Memory
+-- a refusal as the outcome of a text
+abbrev refused : Refusal → Result CheckedUnit Refusal
+refused r = Err r
+
+not-memory-either : (r : Refusal) (w : Reason) → Some w ≡ reason_of r → refused r ≢ refused refusal.Memory
 not-memory-either r w told same = let inner : r ≡ refusal.Memory = cc same in not-memory r w told inner
 
 -- a text that is not read
@@ -39,7 +43,7 @@ pub unread-told : (t : Text) (r : Refusal) (w : Reason) → Some w ≡ reason_of
 unread-told t r w told h = record { refusal = r; unread = h (not-memory r w told); told = sym told }
 
 -- a text that is refused, and one that is accepted
-pub refused-told : (t : Text) (r : Refusal) (w : Reason) → Some w ≡ reason_of r → (Err r ≢ Err refusal.Memory → front.Verdict t (Err r)) → IsRefused t w.line w.cause
+pub refused-told : (t : Text) (r : Refusal) (w : Reason) → Some w ≡ reason_of r → (refused r ≢ refused refusal.Memory → front.Verdict t (refused r)) → IsRefused t w.line w.cause
 refused-told t r w told h = record { refusal = r; verdict = h (not-memory-either r w told); told = sym told }
 
 pub accepted-told : (t : Text) (unit : CheckedUnit) → (Ok unit ≢ Err refusal.Memory → front.Verdict t (Ok unit)) → IsAccepted t

@@ -85,51 +85,12 @@ fn logic_sign(op: Logic) -> &'static str {
     }
 }
 
-/// Two forms in parentheses with a sign between them.
-fn write_pair(
-    out: &mut String,
-    names: &[String],
-    left: &CheckedExpr,
-    sign: &str,
-    right: &CheckedExpr,
-) -> Result<(), AllocError> {
-    out.push_str("(")?;
-    write_form(out, names, left)?;
-    out.push_str(sign)?;
-    write_form(out, names, right)?;
-    out.push_str(")")
-}
-
-/// A pointer that is moved, with the bytes of an element.
-fn write_moved(
-    out: &mut String,
-    names: &[String],
-    sum: PointerSum,
-    pointer: &CheckedExpr,
-    by: &CheckedExpr,
-    size: u32,
-) -> Result<(), AllocError> {
+/// The sign between a pointer and what it is moved by.
+fn moved_sign(sum: PointerSum) -> &'static str {
     match sum {
-        PointerSum::PointerPlus => {
-            out.push_str("(")?;
-            write_form(out, names, pointer)?;
-            write!(out, " + {size}*")?;
-            write_form(out, names, by)?;
-        }
-        PointerSum::PlusPointer => {
-            write!(out, "({size}*")?;
-            write_form(out, names, by)?;
-            out.push_str(" + ")?;
-            write_form(out, names, pointer)?;
-        }
-        PointerSum::PointerMinus => {
-            out.push_str("(")?;
-            write_form(out, names, pointer)?;
-            write!(out, " - {size}*")?;
-            write_form(out, names, by)?;
-        }
+        PointerSum::PointerPlus | PointerSum::PlusPointer => " + ",
+        PointerSum::PointerMinus => " - ",
     }
-    out.push_str(")")
 }
 
 /// A checked expression.
@@ -186,7 +147,19 @@ pub fn write_form(out: &mut String, names: &[String], e: &CheckedExpr) -> Result
             size,
             checks,
         } => {
-            write_moved(out, names, *sum, pointer.get(), by.get(), *size)?;
+            out.push_str("(")?;
+            if matches!(sum, PointerSum::PlusPointer) {
+                write!(out, "{size}*")?;
+                write_form(out, names, by.get())?;
+                out.push_str(moved_sign(*sum))?;
+                write_form(out, names, pointer.get())?;
+            } else {
+                write_form(out, names, pointer.get())?;
+                out.push_str(moved_sign(*sum))?;
+                write!(out, "{size}*")?;
+                write_form(out, names, by.get())?;
+            }
+            out.push_str(")")?;
             write_ids(out, checks.as_slice())?;
         }
         CheckedExpr::Unary { op, scalar, of } => {
@@ -204,7 +177,11 @@ pub fn write_form(out: &mut String, names: &[String], e: &CheckedExpr) -> Result
             checks,
         } => {
             write_scalar(out, *scalar)?;
-            write_pair(out, names, left.get(), arithmetic_sign(*op), right.get())?;
+            out.push_str("(")?;
+            write_form(out, names, left.get())?;
+            out.push_str(arithmetic_sign(*op))?;
+            write_form(out, names, right.get())?;
+            out.push_str(")")?;
             write_ids(out, checks.as_slice())?;
         }
         CheckedExpr::Compare {
@@ -214,10 +191,18 @@ pub fn write_form(out: &mut String, names: &[String], e: &CheckedExpr) -> Result
             right,
         } => {
             write_scalar(out, *scalar)?;
-            write_pair(out, names, left.get(), comparison_sign(*op), right.get())?;
+            out.push_str("(")?;
+            write_form(out, names, left.get())?;
+            out.push_str(comparison_sign(*op))?;
+            write_form(out, names, right.get())?;
+            out.push_str(")")?;
         }
         CheckedExpr::Logical { op, left, right } => {
-            write_pair(out, names, left.get(), logic_sign(*op), right.get())?;
+            out.push_str("(")?;
+            write_form(out, names, left.get())?;
+            out.push_str(logic_sign(*op))?;
+            write_form(out, names, right.get())?;
+            out.push_str(")")?;
         }
     }
     Ok(())

@@ -38,7 +38,7 @@ fn unit_of(alloc: Global, text: &[u8]) -> Result<Unit, ReadRefusal>
 }
 
 fn checked(alloc: Global, unit: Unit) -> Outcome
-    requires { IsShortUnit unit.now }
+    requires { IsShortUnit unit }
 {
     let types = match layouts(alloc, &unit) {
         Ok(types) => types,

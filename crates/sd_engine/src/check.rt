@@ -77,7 +77,7 @@ fn refusal_of(alloc: Global, text: &[u8], driver: usize) -> Result<Option<Refusa
         (λ refusal. (refusal.driver ≡ driver) × IsRefused text.now refusal.line refusal.cause)) }
 {
     match accept(alloc, text) {
-        Ok(_) => Ok(None),
+        Ok(_unit) => Ok(None),
         Err(refusal) => match refusal.reason() {
             Some(reason) => Ok(Some(Refusal {
                 driver,

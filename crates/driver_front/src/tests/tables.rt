@@ -40,18 +40,18 @@ fn settle(
 pub fn wrong_rows(alloc: Global, frame: &Frame<'_>, table: &str) -> Result<String, AllocError> {
     let mut out = String::new(alloc);
     let mut wanted = String::new(alloc);
-    let mut row = "";
+    let mut row = String::new(alloc);
     for line in table.lines() {
         if line.starts_with("  ") {
             wanted.push_str(line)?;
             wanted.push_str("\n")?;
         } else {
-            settle(alloc, &mut out, frame, row, wanted.as_str())?;
-            row = line;
+            settle(alloc, &mut out, frame, row.as_str(), wanted.as_str())?;
+            row = String::from_str(alloc, line)?;
             wanted.clear();
         }
     }
-    settle(alloc, &mut out, frame, row, wanted.as_str())?;
+    settle(alloc, &mut out, frame, row.as_str(), wanted.as_str())?;
     Ok(out)
 }
 
@@ -105,18 +105,18 @@ fn settle_text(
 pub fn wrong_texts(alloc: Global, show: Show, table: &str) -> Result<String, AllocError> {
     let mut out = String::new(alloc);
     let mut wanted = String::new(alloc);
-    let mut row = "";
+    let mut row = String::new(alloc);
     for line in table.lines() {
         if line.starts_with("  ") {
             wanted.push_str(line)?;
             wanted.push_str("\n")?;
         } else {
-            settle_text(alloc, &mut out, show, row, wanted.as_str())?;
-            row = line;
+            settle_text(alloc, &mut out, show, row.as_str(), wanted.as_str())?;
+            row = String::from_str(alloc, line)?;
             wanted.clear();
         }
     }
-    settle_text(alloc, &mut out, show, row, wanted.as_str())?;
+    settle_text(alloc, &mut out, show, row.as_str(), wanted.as_str())?;
     Ok(out)
 }
 

@@ -118,6 +118,23 @@ impl Tested {
         }
     }
 
+    /// Makes the `n` bytes from `at` on 0.
+    pub fn fill(&mut self, at: u32, n: u32)
+        requires inside { IsTrue (is_inside self.old at n) }
+        ensures after { self.new ≡ record self.old { bytes = overwritten self.old.bytes at (zeros n) } }
+        ensures len { length self.new.bytes ≡ length self.old.bytes }
+    {
+        self.arena.fill(at, n);
+    }
+
+    /// The `n` bytes from `at` on, as they are now.
+    pub fn view(&self, at: u32, n: u32) -> &[u8]
+        requires inside { IsTrue (is_inside self.now at n) }
+        ensures { result.now ≡ bytes_at self.now.bytes at n }
+    {
+        self.arena.view(at, n)
+    }
+
     /// Makes all bytes 0 and takes every grant back.
     #[tactic(auto, using(crate::proofs::Words::cleared))]
     pub fn clear(&mut self)

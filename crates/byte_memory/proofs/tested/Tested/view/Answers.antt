@@ -1,0 +1,10 @@
+use Rattle.std.proofs.Common.{sym, subst}
+use Rattle.std.specs.Prelude.{IsTrue}
+use Rattle.byte_memory.specs.Tested.{Memory, is_inside}
+use Rattle.byte_memory.proofs.Grants.{inside_within}
+use Rattle.byte_memory.proofs.tested.Tested.view.Goals as goal
+
+pub view-requires : goal.view-requires
+view-requires c =
+    let inside = subst (λ (m : Memory). IsTrue (is_inside m c.args.at c.args.n)) (sym c.self.view_is) c.requires.inside in
+    inside_within _ _ _ _ c.args.at c.args.n c.self.invariant inside

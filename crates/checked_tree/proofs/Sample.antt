@@ -1,7 +1,6 @@
 -- A small driver by hand, on which the examples compute: a function of an integer and a pointer, with a block of 12 bytes.
-use Rattle.std.specs.Prelude.{ℕ, false, List, [], ◌∷◌, ◌++◌, replicate, ℤ, pos, negsuc, Some, None}
-use Rattle.sd_base.specs.Blocks.{Block}
-use Rattle.sd_base.specs.declared.history.BlockState.TheVariants.{Live}
+use Rattle.std.specs.Prelude.{ℕ, List, [], ◌∷◌, ◌++◌, replicate, ℤ, pos, negsuc, Some, None}
+use Rattle.byte_memory.specs.declared.tested.GrantedRange.{GrantedRange}
 use Rattle.sd_base.specs.declared.kinds.CheckKind.{CheckKind}
 use Rattle.sd_base.specs.declared.kinds.CheckKind.TheVariants as kind
 use Rattle.dep_expr.specs.Linear.{LinearForm}
@@ -17,18 +16,18 @@ use Rattle.checked_tree.specs.declared.statements.CheckedStmt.{CheckedStmt}
 use Rattle.checked_tree.specs.declared.statements.CheckedStmt.TheVariants as T
 use Rattle.checked_tree.specs.declared.units.CheckedFn.{CheckedFn}
 use Rattle.checked_tree.specs.declared.units.CheckedUnit.{CheckedUnit}
-use Rattle.checked_tree.specs.Memory.{Memory}
+use Rattle.byte_memory.specs.Tested.{Memory}
 use Rattle.checked_tree.specs.Conditions.{State}
 
 -- a block of three integers at 16: 1, -2 and 0; behind it a byte that is not granted
 abbrev pub bytes : List ℕ
 bytes = replicate 16 0 ++ (1 ∷ 0 ∷ 0 ∷ 0 ∷ 254 ∷ 255 ∷ 255 ∷ 255 ∷ 0 ∷ 0 ∷ 0 ∷ 0 ∷ 9 ∷ [])
 
-abbrev pub block : Block
-block = record { base = 16; layout = record { elem = 0; size = 4; nullterm = false }; count = 3; state = Live }
+abbrev pub range : GrantedRange
+range = record { base = 16; size = 12 }
 
 abbrev pub memory : Memory
-memory = record { bytes = bytes; blocks = block ∷ [] }
+memory = record { bytes = bytes; granted = range ∷ [] }
 
 -- a function's frame: an integer, and a pointer with its two hidden bounds
 abbrev pub state : ℤ → ℤ → State

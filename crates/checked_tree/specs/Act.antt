@@ -8,7 +8,8 @@ use Rattle.checked_tree.specs.declared.statements.CheckedStmt.{CheckedStmt}
 use Rattle.checked_tree.specs.declared.statements.CheckedStmt.TheOpen as S
 use Rattle.checked_tree.specs.Outcome.{Outcome, ◌>>=◌}
 use Rattle.checked_tree.specs.Numbers.{holds}
-use Rattle.checked_tree.specs.Memory.{Memory, store, cleared}
+use Rattle.byte_memory.specs.Tested.{Memory}
+use Rattle.checked_tree.specs.Memory.{store, cleared}
 use Rattle.checked_tree.specs.Conditions.{State}
 use Rattle.checked_tree.specs.Eval.{Keep, eval, tests}
 use Rattle.checked_tree.specs.Operands.{operand, taken, arguments, optional_operand, optional_argument}

@@ -13,8 +13,9 @@ use Rattle.checked_tree.specs.declared.expressions.PointerSum.TheVariants.{Point
 use Rattle.checked_tree.specs.declared.checks.Cond.{Cond}
 use Rattle.checked_tree.specs.declared.checks.Cond.TheVariants.{Le, Aligned, NonZero, Equal, Term, Kept}
 use Rattle.checked_tree.specs.Outcome.{Outcome, Got, ◌>>=◌}
-use Rattle.checked_tree.specs.Numbers.{unary, arithmetic, comparison, truth, holds}
-use Rattle.checked_tree.specs.Memory.{Memory, load, is_clear}
+use Rattle.checked_tree.specs.Numbers.{converted, address, limited, unary, arithmetic, comparison, truth, holds}
+use Rattle.byte_memory.specs.Tested.{Memory}
+use Rattle.checked_tree.specs.Memory.{load, is_clear}
 
 -- what evaluation reads: the values of the slots, and the memory
 pub record State : Type 0 where
@@ -44,16 +45,16 @@ logical logic_op.Or x right = if holds x then Ok (pos 1) else (right >>= λ y. O
 
 -- one level of an expression: its parts left to right, its own checks, its value
 abbrev pub eval_level : Testing → State → E.CheckedExpr-F Got → Got
-eval_level tests s (E.Number value scalar) = Ok value
+eval_level tests s (E.Number value scalar) = Ok (converted scalar value)
 eval_level tests s E.Null = Ok (pos 0)
 eval_level tests s (E.Local slot) = Ok (slice_index_or s.locals slot (pos 0))
 eval_level tests s (E.Block base) = Ok (pos base)
 eval_level tests s (E.Through pointer checks) = pointer >>= λ p. tests checks >>= λ _. Ok p
-eval_level tests s (E.Element pointer index size checks) = pointer >>= λ p. index >>= λ i. tests checks >>= λ _. Ok (p +ℤ (pos size *ℤ i))
-eval_level tests s (E.Field place offset checks) = place >>= λ a. tests checks >>= λ _. Ok (a +ℤ pos offset)
+eval_level tests s (E.Element pointer index size checks) = pointer >>= λ p. index >>= λ i. tests checks >>= λ _. address (p +ℤ (pos size *ℤ i))
+eval_level tests s (E.Field place offset checks) = place >>= λ a. tests checks >>= λ _. address (a +ℤ pos offset)
 eval_level tests s (E.Load scalar place) = place >>= λ a. load s.memory scalar a
 eval_level tests s (E.AddressOf place) = place
-eval_level tests s (E.Moved sum pointer by size checks) = parts sum pointer by >>= λ x. tests checks >>= λ _. Ok (moved sum size x.0 x.1)
+eval_level tests s (E.Moved sum pointer by size checks) = parts sum pointer by >>= λ x. tests checks >>= λ _. address (moved sum size x.0 x.1)
 eval_level tests s (E.Unary op scalar of) = of >>= λ x. Ok (unary op scalar x)
 eval_level tests s (E.Binary op scalar left right checks) = left >>= λ x. right >>= λ y. tests checks >>= λ _. arithmetic op scalar x y
 eval_level tests s (E.Compare op scalar left right) = left >>= λ x. right >>= λ y. Ok (comparison op scalar x y)
@@ -71,11 +72,11 @@ atom_value s None = Err Wild
 -- a sum so far, and the terms still to add
 abbrev pub sum_from : List CheckedExpr → State → List (ℤ × ℕ) → ℤ → Got
 sum_from atoms s [] sum = Ok sum
-sum_from atoms s (t ∷ ts) sum = atom_value s (slice_get atoms t.1) >>= λ v. sum_from atoms s ts (sum +ℤ (t.0 *ℤ v))
+sum_from atoms s (t ∷ ts) sum = atom_value s (slice_get atoms t.1) >>= λ v. limited (sum +ℤ (t.0 *ℤ v)) >>= λ next. sum_from atoms s ts next
 
 -- the value of a linear form over the atoms
 unfoldable pub form_value : List CheckedExpr → State → LinearForm → Got
-form_value atoms s l = sum_from atoms s l.terms l.constant
+form_value atoms s l = limited l.constant >>= λ first. sum_from atoms s l.terms first
 
 -- the value of a form, if there is one
 abbrev pub optional_value : List CheckedExpr → State → Option LinearForm → Outcome (Option ℤ)

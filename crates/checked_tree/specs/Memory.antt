@@ -1,45 +1,32 @@
--- The memory of a driver: its bytes and the blocks that were granted to it. An access that no one block contains has no meaning.
-use Rattle.std.specs.Prelude.{ℕ, ◌+◌, nat_le, Bool, ◌&&◌, List, ℤ, pos, negsuc, Ok, Err, if◌then◌else◌}
-use Rattle.std.specs.List.{list_any, list_all}
-use Rattle.sd_base.specs.Blocks.{Block, block_end}
+-- The memory of a driver: its bytes and the ranges of them that were granted to it. An access that no one range contains has no meaning.
+use Rattle.std.specs.Prelude.{ℕ, ◌==◌, Bool, List, ℤ, pos, Ok, Err, if◌then◌else◌}
+use Rattle.std.specs.List.{list_all}
+use Rattle.byte_memory.specs.Bytes.{little_endian, low_bytes, bytes_at, overwritten, zeros}
+use Rattle.byte_memory.specs.Tested.{Memory, is_inside}
 use Rattle.checked_tree.specs.declared.stops.Stop.TheVariants.{Wild}
 use Rattle.checked_tree.specs.declared.shapes.Scalar.{Scalar}
-use Rattle.checked_tree.specs.Outcome.{Outcome, Got}
-use Rattle.checked_tree.specs.Numbers.{converted, scalar_size, low_bits}
-use Rattle.byte_memory.specs.Bytes.{little_endian, low_bytes, bytes_at, overwritten, zeros}
-use Rattle.std.specs.Prelude.{◌==◌}
+use Rattle.checked_tree.specs.Outcome.{Outcome, Got, ◌>>=◌}
+use Rattle.checked_tree.specs.Numbers.{word_of, converted, scalar_size, low_bits}
 
--- the bytes of the arena, and the blocks that are granted
-pub record Memory : Type 0 where
-  pub bytes : List ℕ
-  pub blocks : List Block
-
--- a block contains the n bytes from `at` on; nothing wraps
-abbrev pub contains : ℕ → ℕ → Block → Bool
-contains at n block = nat_le block.base at && nat_le (at + n) (block_end block)
-
--- the n bytes from `at` on are inside: one block contains them all
-unfoldable pub is_inside : List Block → ℕ → ℕ → Bool
-is_inside blocks at n = list_any (contains at n) blocks
+-- the address of n bytes that are inside
+unfoldable pub reached : Memory → ℤ → ℕ → Outcome ℕ
+reached m at n = word_of at >>= λ a. if is_inside m a n then Ok a else Err Wild
 
 -- the n bytes from an address on, where they are inside
 unfoldable pub read : Memory → ℤ → ℕ → Outcome (List ℕ)
-read m (pos a) n = if is_inside m.blocks a n then Ok (bytes_at m.bytes a n) else Err Wild
-read m (negsuc a) n = Err Wild
+read m at n = reached m at n >>= λ a. Ok (bytes_at m.bytes a n)
 
--- the memory with these bytes from an address on, where they are inside
+-- the memory with these bytes from an address on, where n bytes are inside
 unfoldable pub written : Memory → ℤ → ℕ → List ℕ → Outcome Memory
-written m (pos a) n new = if is_inside m.blocks a n then Ok (record m { bytes = overwritten m.bytes a new }) else Err Wild
-written m (negsuc a) n new = Err Wild
+written m at n new = reached m at n >>= λ a. Ok (record m { bytes = overwritten m.bytes a new })
 
 -- the value of a type from its bytes
-abbrev pub value_from : Scalar → Outcome (List ℕ) → Got
-value_from scalar (Ok bytes) = Ok (converted scalar (pos (little_endian bytes)))
-value_from scalar (Err e) = Err e
+abbrev pub value_from : Scalar → List ℕ → ℤ
+value_from scalar bytes = converted scalar (pos (little_endian bytes))
 
 -- the value of a place of this type
 unfoldable pub load : Memory → Scalar → ℤ → Got
-load m scalar at = value_from scalar (read m at (scalar_size scalar))
+load m scalar at = read m at (scalar_size scalar) >>= λ bytes. Ok (value_from scalar bytes)
 
 -- the memory with a value in a place of this type: its low bytes
 unfoldable pub store : Memory → Scalar → ℤ → ℤ → Outcome Memory
@@ -49,10 +36,6 @@ store m scalar at v = written m at (scalar_size scalar) (low_bytes (scalar_size 
 unfoldable pub cleared : Memory → ℤ → ℕ → Outcome Memory
 cleared m at n = written m at n (zeros n)
 
-abbrev pub are_zero : Outcome (List ℕ) → Outcome Bool
-are_zero (Ok bytes) = Ok (list_all (λ b. b == 0) bytes)
-are_zero (Err e) = Err e
-
 -- whether n bytes are all 0
 unfoldable pub is_clear : Memory → ℤ → ℕ → Outcome Bool
-is_clear m at n = are_zero (read m at n)
+is_clear m at n = read m at n >>= λ bytes. Ok (list_all (λ b. b == 0) bytes)

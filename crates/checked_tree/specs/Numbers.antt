@@ -1,5 +1,5 @@
 -- The numbers of C99 with two's complement: types, conversions, and the operators on converted numbers.
-use Rattle.std.specs.Prelude.{ℕ, ◌-◌, ◌/◌, ◌%◌, ◌^◌, nat_lt, Bool, true, false, not, ◌&&◌, ℤ, pos, negsuc, ◌+ℤ◌, ◌-ℤ◌, ◌*ℤ◌, neg_ℤ, int_lt, int_le, int_div, int_rem, Ok, Err, if◌then◌else◌, bit_and, bit_or, bit_xor}
+use Rattle.std.specs.Prelude.{ℕ, ◌-◌, ◌/◌, ◌%◌, ◌^◌, nat_lt, Bool, true, false, not, ◌&&◌, ℤ, pos, negsuc, ◌+ℤ◌, ◌-ℤ◌, ◌*ℤ◌, neg_ℤ, int_lt, int_le, int_div, int_rem, unsigned_abs, Ok, Err, if◌then◌else◌, bit_and, bit_or, bit_xor}
 use Rattle.std.specs.Ordering.{int_eq}
 use Rattle.checked_tree.specs.declared.stops.Stop.TheVariants.{Wild}
 use Rattle.checked_tree.specs.declared.shapes.Scalar.{Scalar}
@@ -10,7 +10,7 @@ use Rattle.checked_tree.specs.declared.expressions.Comparison.{Comparison}
 use Rattle.checked_tree.specs.declared.expressions.Comparison.TheVariants as comparison_op
 use Rattle.checked_tree.specs.declared.expressions.Unary.{Unary}
 use Rattle.checked_tree.specs.declared.expressions.Unary.TheVariants as unary_op
-use Rattle.checked_tree.specs.Outcome.{Got}
+use Rattle.checked_tree.specs.Outcome.{Outcome, Got, ◌>>=◌}
 
 -- a number modulo 2^n
 abbrev pub low_bits : ℕ → ℤ → ℕ
@@ -21,25 +21,46 @@ low_bits n (negsuc m) = 2 ^ n - 1 - m % 2 ^ n
 abbrev pub signed : ℕ → ℕ → ℤ
 signed n m = if nat_lt m (2 ^ (n - 1)) then pos m else pos m -ℤ pos (2 ^ n)
 
--- a number converted to a type: modulo 2^bits for an integer type (C99 6.3.1.3, and two's complement). An address stays as it is
+-- a number converted to a type: modulo 2^bits (C99 6.3.1.3, and two's complement). A pointer has 32 bits, so an address stays as it is; `void` has no value
 unfoldable pub converted : Scalar → ℤ → ℤ
-converted Void z = z
+converted Void z = pos 0
 converted U8 z = pos (low_bits 8 z)
 converted I8 z = signed 8 (low_bits 8 z)
 converted U16 z = pos (low_bits 16 z)
 converted I16 z = signed 16 (low_bits 16 z)
 converted I32 z = signed 32 (low_bits 32 z)
 converted U32 z = pos (low_bits 32 z)
-converted (Pointer size) z = z
+converted (Pointer size) z = pos (low_bits 32 z)
 
 -- a number that an address or a word of 32 bits can be
 abbrev pub is_word : ℤ → Bool
 is_word (pos n) = nat_lt n (2 ^ 32)
 is_word (negsuc n) = false
 
+-- an address, which has 32 bits; a number that is none has no meaning as a place or a pointer
+abbrev pub word_of : ℤ → Outcome ℕ
+word_of (pos n) = if nat_lt n (2 ^ 32) then Ok n else Err Wild
+word_of (negsuc n) = Err Wild
+
+-- the same as a number
+abbrev pub address : ℤ → Got
+address z = word_of z >>= λ a. Ok (pos a)
+
+-- the size from which on a sum has no meaning: the machine's numbers have 128 bits. No sum of a rule comes near it
+abbrev pub sum_limit : ℕ
+sum_limit = 2 ^ 126
+
+-- a sum below that size
+abbrev pub limited : ℤ → Got
+limited z = if nat_lt (unsigned_abs z) sum_limit then Ok z else Err Wild
+
 -- a number from a least one to a greatest one
 abbrev pub is_between : ℤ → ℤ → ℤ → Bool
 is_between low high z = int_le low z && int_le z high
+
+-- a number of 32 bits, signed or unsigned: what a slot, an integer expression or an address can be
+abbrev pub is_value : ℤ → Bool
+is_value z = is_between (neg_ℤ (pos (2 ^ 31))) (pos (2 ^ 32 - 1)) z
 
 -- a number that a type can hold
 unfoldable pub is_of : Scalar → ℤ → Bool
@@ -72,10 +93,14 @@ truth false = pos 0
 abbrev pub holds : ℤ → Bool
 holds z = not (int_eq z (pos 0))
 
--- a quotient by 2^n, rounded down: a shift to the right that keeps the sign
+-- a quotient that is rounded down
+abbrev pub floor_divided : ℤ → ℕ → ℤ
+floor_divided (pos m) n = pos (m / n)
+floor_divided (negsuc m) n = negsuc (m / n)
+
+-- a shift to the right, which keeps the sign
 abbrev pub shifted_right : ℤ → ℕ → ℤ
-shifted_right (pos m) n = pos (m / 2 ^ n)
-shifted_right (negsuc m) n = negsuc (m / 2 ^ n)
+shifted_right z n = floor_divided z (2 ^ n)
 
 -- a number from one other
 unfoldable pub unary : Unary → Scalar → ℤ → ℤ

@@ -1,8 +1,7 @@
 -- What statements evaluate: pointers with their bounds, and numbers that are handed over.
-use Rattle.std.specs.Prelude.{◌^◌, nat_lt, ◌&&◌, List, [], ◌∷◌, ℤ, pos, ◌+ℤ◌, ◌*ℤ◌, Option, Some, None, Ok, Err, if◌then◌else◌}
+use Rattle.std.specs.Prelude.{List, [], ◌∷◌, ℤ, pos, ◌+ℤ◌, ◌*ℤ◌, Option, Some, None, Ok, if◌then◌else◌}
 use Rattle.std.specs.Ordering.{int_eq}
 use Rattle.sd_base.specs.declared.actors.Fat.{Fat}
-use Rattle.checked_tree.specs.declared.stops.Stop.TheVariants.{Wild}
 use Rattle.checked_tree.specs.declared.shapes.Scalar.{Scalar}
 use Rattle.checked_tree.specs.declared.shapes.Scalar.TheVariants.{Void, U8, I8, U16, I16, I32, U32, Pointer}
 use Rattle.checked_tree.specs.declared.sums.Part.{Part}
@@ -12,7 +11,7 @@ use Rattle.checked_tree.specs.declared.statements.PointerOperand.{PointerOperand
 use Rattle.checked_tree.specs.declared.statements.Argument.{Argument}
 use Rattle.checked_tree.specs.declared.units.CheckedFn.{CheckedFn}
 use Rattle.checked_tree.specs.Outcome.{Outcome, Got, ◌>>=◌}
-use Rattle.checked_tree.specs.Numbers.{converted, is_word}
+use Rattle.checked_tree.specs.Numbers.{word_of, address, converted, limited}
 use Rattle.checked_tree.specs.Conditions.{State, peek}
 use Rattle.checked_tree.specs.Eval.{Keep, eval}
 
@@ -24,7 +23,7 @@ part_value s (Atom times atom) = peek s atom >>= λ v. Ok (times *ℤ v)
 -- a sum so far, and the parts still to add
 abbrev pub parts_from : State → List Part → ℤ → Got
 parts_from s [] sum = Ok sum
-parts_from s (p ∷ ps) sum = part_value s p >>= λ v. parts_from s ps (sum +ℤ v)
+parts_from s (p ∷ ps) sum = part_value s p >>= λ v. limited (sum +ℤ v) >>= λ next. parts_from s ps next
 
 -- the value of a sum over expressions
 unfoldable pub sum_value : State → Sum → Got
@@ -36,9 +35,7 @@ null = record { value = 0; lo = 0; hi = 0 }
 
 -- a pointer with bounds; each is an address, or it has no meaning
 unfoldable pub bounded : ℤ → ℤ → ℤ → Outcome Fat
-bounded (pos v) (pos lo) (pos hi) =
-    if nat_lt v (2 ^ 32) && (nat_lt lo (2 ^ 32) && nat_lt hi (2 ^ 32)) then Ok (record { value = v; lo = lo; hi = hi }) else Err Wild
-bounded _ _ _ = Err Wild
+bounded v lo hi = word_of v >>= λ value. word_of lo >>= λ low. word_of hi >>= λ high. Ok (record { value = value; lo = low; hi = high })
 
 -- a pointer with the bounds that its sums give; the null pointer has the bounds 0 and 0
 abbrev pub with_bounds : State → Sum → Sum → ℤ → Outcome Fat
@@ -50,7 +47,7 @@ operand keep f s p = eval keep f s p.value >>= with_bounds s p.low p.high
 
 -- a number as a type takes it: converted to an integer type; for a pointer an address, or it has no meaning
 unfoldable pub taken : Scalar → ℤ → Got
-taken (Pointer size) v = if is_word v then Ok v else Err Wild
+taken (Pointer size) v = address v
 taken Void v = Ok (converted Void v)
 taken U8 v = Ok (converted U8 v)
 taken I8 v = Ok (converted I8 v)

@@ -16,7 +16,7 @@ use Rattle.checked_tree.specs.declared.units.CheckedFn.{CheckedFn}
 use Rattle.checked_tree.specs.declared.units.CheckedUnit.{CheckedUnit}
 use Rattle.checked_tree.specs.Outcome.{Outcome, ◌>>=◌}
 use Rattle.checked_tree.specs.Numbers.{converted}
-use Rattle.checked_tree.specs.Memory.{Memory}
+use Rattle.byte_memory.specs.Tested.{Memory}
 use Rattle.checked_tree.specs.Conditions.{State}
 use Rattle.checked_tree.specs.Eval.{Keep}
 use Rattle.checked_tree.specs.Operands.{null, bounded}

@@ -2,7 +2,7 @@
 -- their first use, in the checks as the rules write them: check by check, within a check the sides in the order in which the condition
 -- is written, a guard behind them, and before the sides are merged. Equal expressions are one atom. Each linear form of a check is merged.
 -- A form is light where the sizes of its coefficients are below 2^62 together, and those of its constants below 2^100. There is no number for
--- what is heavier, which no check of a text within the limits is: it adds up a few thousand parts, each below 2^60.
+-- what is heavier, which no check of a text within the limits is whose declarations stand: it adds up a few thousand parts, each below 2^60.
 use Rattle.std.specs.Prelude.{◌≡◌, ◌≢◌, ℕ, ◌+◌, ◌^◌, ◌&&◌, Bool, true, false, nat_lt, List, [], ◌∷◌, ◌++◌, length, Option, Some, None, option_map, ℤ, pos, ◌*ℤ◌, neg_ℤ, unsigned_abs, if◌then◌else◌, Result, Ok, Err}
 use Rattle.std.specs.List.{position_or_len}
 use Rattle.dep_expr.specs.Linear.{LinearForm, number_form, term_form, plus}

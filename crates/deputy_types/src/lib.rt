@@ -28,7 +28,6 @@ mod layout_laws;
 mod load_image;
 mod member_list;
 mod member_types;
-mod modulus;
 mod name_list;
 mod naming;
 mod refusal;
@@ -73,7 +72,6 @@ pub use layout_laws::{
     a_struct_is_laid_out, a_struct_keeps_its_extent, structs_are_nested, zero_bytes_fit,
 };
 pub use member_list::MemberList;
-pub use modulus::low_bits;
 pub use name_list::NameList;
 pub use naming::{Change, Names, Naming};
 pub use refusal::TypeRefusal;

@@ -5,9 +5,9 @@ ghost use Rattle.deputy_types.specs.UnitLayout as spec;
 ghost use Rattle.deputy_types.specs.UnitLayout.{IsAnswer, IsImage};
 
 use crate::unit_items::Declared;
-use crate::{GlobalShape, TypeRefusal, low_bits, round_up_to};
+use crate::{GlobalShape, TypeRefusal, round_up_to};
 use c_tree::LimitKind;
-use checked_tree::ImageBlock;
+use checked_tree::{ImageBlock, low_bits};
 use sd_base::Memory;
 use sd_base::limits::IMAGE_END;
 use sqlite_items::Items;
@@ -78,7 +78,7 @@ fn first_bytes(alloc: Global, global: &GlobalShape, size: u32) -> Result<Items<u
     if global.value == 0 {
         return zero_bytes(alloc, size);
     }
-    word_bytes(alloc, global.size, low_bits(32, global.value))
+    word_bytes(alloc, global.size, low_bits(32, i128::from(global.value)))
 }
 
 /// The bytes of a global.

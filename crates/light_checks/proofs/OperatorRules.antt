@@ -68,14 +68,14 @@ one_of false m b h = apart m b h
 
 pub converted_small : (s : Scalar) (z : ℤ) → unsigned_abs z ≤ 2 ^ 32 → unsigned_abs (converted s z) ≤ 2 ^ 32
 unfolding converted
-converted_small scalar.Void z h = h
+converted_small scalar.Void z h = omega arith
 converted_small scalar.U8 z h = omega (arith, low_8 z)
 converted_small scalar.I8 z h = omega (arith, one_of (nat_lt (low_bits 8 z) (2 ^ 7)) (low_bits 8 z) (2 ^ 8) (low_8 z))
 converted_small scalar.U16 z h = omega (arith, low_16 z)
 converted_small scalar.I16 z h = omega (arith, one_of (nat_lt (low_bits 16 z) (2 ^ 15)) (low_bits 16 z) (2 ^ 16) (low_16 z))
 converted_small scalar.I32 z h = one_of (nat_lt (low_bits 32 z) (2 ^ 31)) (low_bits 32 z) (2 ^ 32) (low_32 z)
 converted_small scalar.U32 z h = low_32 z
-converted_small (scalar.Pointer n) z h = h
+converted_small (scalar.Pointer n) z h = low_32 z
 
 -- ---- constants and what is computed
 computed_is : (e : CheckedExpr) (s : Scalar) (n : ℕ) → IsDerived n (computed e s)

@@ -4,13 +4,12 @@ ghost use Rattle.deputy_types.specs.Deriving.{Derives, Gives};
 ghost use Rattle.deputy_types.specs.Operators as spec;
 
 use crate::Context;
-use crate::conversion::converted;
 use crate::forms::{number_form, unary_form};
 use crate::places::{followed, is_unsigned};
 use crate::pointers::address_of;
 use crate::values::{integer_of, pointer_of, value_of};
 use c_tree::{Base, Number, Star, Suffix, TypeName, Unary};
-use checked_tree::{CheckedExpr, Scalar};
+use checked_tree::{CheckedExpr, Scalar, converted};
 use deputy_types::{Asked, Derived, Refusal, Value, Whole, Written};
 use sqlite_items::{Boxed, Items};
 use std::alloc::{AllocError, Global};
@@ -145,7 +144,7 @@ fn on_one(alloc: Global, op: checked_tree::Unary, of: Whole) -> Result<Derived, 
 fn negative_number(alloc: Global, scalar: Scalar, value: u32) -> Result<Derived, AllocError>
     ensures { IfOk result (λ d. d ≡ spec.negative_number scalar value) }
 {
-    let negative = converted(scalar, -i64::from(value));
+    let negative = converted(scalar, -i128::from(value));
     constant_of_type(alloc, negative, scalar, Written::Constant(negative))
 }
 

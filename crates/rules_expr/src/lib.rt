@@ -4,7 +4,6 @@
 mod asking;
 mod binary;
 mod context;
-mod conversion;
 mod copies;
 mod expressions;
 mod forms;
@@ -20,7 +19,6 @@ mod values;
 pub use asking::ask;
 pub use binary::{same_element, same_truth};
 pub use context::Context;
-pub use conversion::converted;
 pub use copies::{copy_form, copy_part, copy_sum};
 pub use expressions::{derive, expression};
 pub use forms::{field_form, load_form, null_form, unary_form};

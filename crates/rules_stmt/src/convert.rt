@@ -6,11 +6,11 @@ ghost use Rattle.deputy_types.specs.Operators.{same_truth};
 ghost use Rattle.deputy_types.specs.Pointers as pointers;
 ghost use Rattle.deputy_types.specs.Types as types;
 
-use checked_tree::{CheckedExpr, Part, Scalar, Unary};
+use checked_tree::{CheckedExpr, Part, Scalar, Unary, converted};
 use deputy_types::{Derived, Element, Handed, Pointed, Refusal, Value, Whole};
 use rules_expr::{
-    Context, atom_part, constant, constant_of, constant_part, converted, copy_form, is_written,
-    null_form, same_element, unary_form, value_of,
+    Context, atom_part, constant, constant_of, constant_part, copy_form, is_written, null_form,
+    same_element, unary_form, value_of,
 };
 use std::alloc::{AllocError, Global};
 
@@ -63,7 +63,7 @@ fn side_by(
     ensures { IfOk result (λ p. p ≡ spec.side_by constant scalar w.now) }
 {
     match constant {
-        Some(z) => Ok(constant_part(converted(scalar, z))),
+        Some(z) => Ok(constant_part(converted(scalar, i128::from(z)))),
         None => cast_side(alloc, scalar, w),
     }
 }

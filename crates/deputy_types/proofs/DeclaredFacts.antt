@@ -22,7 +22,7 @@ extent_at [] x (suc s) each h = each 0
 extent_at (y ∷ ys) x zero each h = each 0
 extent_at (y ∷ ys) x (suc s) each h = extent_at ys x s (λ t. each (suc t)) h
 
-extents-push : (extents : List Extent) (x : Extent) → AreExtents extents → IsExtent x → AreExtents (extents ++ x ∷ [])
+pub extents-push : (extents : List Extent) (x : Extent) → AreExtents extents → IsExtent x → AreExtents (extents ++ x ∷ [])
 extents-push extents x all h = record { each = λ s. extent_at extents x s all.each h }
 
 -- a struct that was laid out has a number below the limit
@@ -51,7 +51,7 @@ named_length names x true room = omega arith
 named_length names x false true = rw length-append (omega arith)
 named_length names x false false = omega arith
 
-with_name_length : (names : List (List ℕ)) (x : List ℕ) → length (with_name names x) ≤ length names + 1
+pub with_name_length : (names : List (List ℕ)) (x : List ℕ) → length (with_name names x) ≤ length names + 1
 unfolding with_name
 with_name_length names x = named_length names x _ _
 

@@ -10,6 +10,7 @@ pub mod DeclaredFacts
 pub mod WordBytes
 pub mod LayoutExamples
 pub mod Inversions
+pub mod TypeExtents
 pub mod MembersLie
 pub mod Nested
 pub mod SameExtent

@@ -33,6 +33,7 @@ use Rattle.deputy_types.specs.Options.{and_then}
 use Rattle.deputy_types.specs.Siblings.{no_siblings}
 use Rattle.deputy_types.specs.StructLayout.{Surroundings, or_no_decl, is_first, is_new_field, field_shape, field_declared, is_complete, if_complete, siblings_of, counted, element_count, within_limits, placed, with_plain, arms_extent, const_value, arm_tag, if_number, arm_shape, with_arm_of, with_tagged_arm, with_arm, with_next_arm, with_arms_in_turn, is_new_union, with_union_of, with_union_arms, with_union_at, with_union, with_any_field, empty_struct, with_fields_in_turn, laid_out, head_of_struct, struct_siblings, laid_with, struct_laid}
 use Rattle.deputy_types.proofs.Inversions.{some_then, some_map, if_some, ok_then, ok_declared, if_ok, unless_ok, within_is}
+use Rattle.deputy_types.proofs.TypeExtents.{no_extent_is, type_is_extent, greater_is_extent, arms_is_extent}
 use Rattle.deputy_types.specs.StructLaws.{IsMultiple, shape_extent, LiesWithin, is_arm_of, IsBefore, AreInOrder, IsLaidOut}
 use Rattle.deputy_types.specs.UnitLayout.{IsAnswer}
 use Rattle.deputy_types.specs.Types.{base_key, element_number, stars_key, front_stars, last_star, pointed_key}
@@ -142,39 +143,6 @@ field_extent at laying d x h =
     typed_extent at.types at.extents unannotated.Safe (siblings_of at.siblings d.size) m d.type_name t.0 t.1
     ∙ (ap (shape_extent at.extents) f ∙ ap (λ (y : Shape × ℕ). shape_extent at.extents y.0) b.2)
 
--- ---- extents of types
-natural_is_extent : (n : ℕ) → n ≤ 4 → 1 ≤ n → n ≢ 3 → IsExtent (natural n)
-natural_is_extent n a b c = record { bytes = omega arith; least = b; greatest = a; other = c }
-
-key_is_extent : (extents : List Extent) (key : Element) → AreExtents extents → IsExtent (key_extent extents key)
-key_is_extent extents (element.Int scalar.Void) h = record { bytes = omega arith; least = omega arith; greatest = omega arith; other = omega arith }
-key_is_extent extents (element.Int scalar.U8) h = natural_is_extent 1 (omega arith) (omega arith) (omega arith)
-key_is_extent extents (element.Int scalar.I8) h = natural_is_extent 1 (omega arith) (omega arith) (omega arith)
-key_is_extent extents (element.Int scalar.U16) h = natural_is_extent 2 (omega arith) (omega arith) (omega arith)
-key_is_extent extents (element.Int scalar.I16) h = natural_is_extent 2 (omega arith) (omega arith) (omega arith)
-key_is_extent extents (element.Int scalar.I32) h = natural_is_extent 4 (omega arith) (omega arith) (omega arith)
-key_is_extent extents (element.Int scalar.U32) h = natural_is_extent 4 (omega arith) (omega arith) (omega arith)
-key_is_extent extents (element.Int (scalar.Pointer n)) h = natural_is_extent 4 (omega arith) (omega arith) (omega arith)
-key_is_extent extents (element.Struct s) h = h.each s
-key_is_extent extents (element.Sentinel n) h = natural_is_extent 4 (omega arith) (omega arith) (omega arith)
-key_is_extent extents (element.Nullterm n) h = natural_is_extent 4 (omega arith) (omega arith) (omega arith)
-key_is_extent extents (element.Count n k) h = natural_is_extent 4 (omega arith) (omega arith) (omega arith)
-
-no_extent_is : IsExtent no_extent
-no_extent_is = record { bytes = omega arith; least = omega arith; greatest = omega arith; other = omega arith }
-
-base_is_extent : (extents : List Extent) (base : Option Element) → AreExtents extents → IsExtent (unwrap_or (option_map (key_extent extents) base) no_extent)
-base_is_extent extents None h = no_extent_is
-base_is_extent extents (Some key) h = key_is_extent extents key h
-
-stars_is_extent : (extent : Extent) (stars : List Star) → IsExtent extent → IsExtent (stars_extent extent stars)
-stars_is_extent extent [] h = h
-stars_is_extent extent (s ∷ ss) h = natural_is_extent 4 (omega arith) (omega arith) (omega arith)
-
-type_is_extent : (types : Types) (extents : List Extent) (t : TypeName) → AreExtents extents → IsExtent (type_extent types extents t)
-unfolding type_extent
-type_is_extent types extents t h = stars_is_extent _ t.stars (base_is_extent extents (base_key types.structs t.base) h)
-
 plain_lies : (at : Surroundings) (laying : Laying) (line : ℕ) (d : Declaration) (out : Laying)
     → AreExtents at.extents → Lie at.extents laying → with_plain at laying line d ≡ Ok out → Lie at.extents out
 unfolding with_plain
@@ -280,19 +248,6 @@ fits_less offset end x y p q l f = record {
   aligned = multiple_of_less x.align y.align offset (is_power x.align p.least p.greatest p.other) (is_power y.align q.least q.greatest q.other) l.align f.aligned;
   within = omega (arith, l.bytes, f.within);
 }
-
-greater_is_extent : (x y : Extent) → IsExtent x → IsExtent y → IsExtent (greater x y)
-greater_is_extent x y p q = record {
-  bytes = omega (arith, p.bytes, q.bytes);
-  least = omega (arith, p.least, q.least);
-  greatest = omega (arith, p.greatest, q.greatest);
-  other = omega (arith, p.other, q.other);
-}
-
-arms_is_extent : (types : Types) (extents : List Extent) (x : Extent) (arms : List Arm) → AreExtents extents → IsExtent x → IsExtent (arms_extent types extents x arms)
-arms_is_extent types extents x [] h p = p
-arms_is_extent types extents x (a ∷ arms) h p =
-    arms_is_extent types extents (greater x (type_extent types extents a.type_name)) arms h (greater_is_extent x (type_extent types extents a.type_name) p (type_is_extent types extents a.type_name h))
 
 less_of_both : (x t y : Extent) → IsLess (greater x t) y → IsLess x y × IsLess t y
 less_of_both x t y l = (record { bytes = omega (arith, l.bytes); align = omega (arith, l.align) }, record { bytes = omega (arith, l.bytes); align = omega (arith, l.align) })

@@ -22,7 +22,7 @@ zero_number (suc n) (b ∷ xs) h =
     let rest : little_endian (take n xs) ≡ 0 = zero_number n xs (λ i l. h (suc i) (omega arith)) in
     omega (arith, here, rest)
 
-zero_bytes : (bytes : List ℕ) (at n : ℕ) → AreZero bytes at n → little_endian (bytes_at bytes at n) ≡ 0
+pub zero_bytes : (bytes : List ℕ) (at n : ℕ) → AreZero bytes at n → little_endian (bytes_at bytes at n) ≡ 0
 unfolding bytes_at
 zero_bytes bytes at n h = zero_number n (drop at bytes) (λ i l. get_or-drop at bytes i 0 ∙ h i l)
 
@@ -36,14 +36,14 @@ at_member structs t k j m all is l =
     let more : (j + 1) * shape_size structs m.shape ≤ m.count * shape_size structs m.shape = grind arith in
     grind arith
 
-record LiesIn (at size b n : ℕ) : Type 0 where
-  from : at ≤ b
-  to : b + n ≤ at + size
+pub record LiesIn (at size b n : ℕ) : Type 0 where
+  pub from : at ≤ b
+  pub to : b + n ≤ at + size
 
 struct_size : (structs : List StructShape) (s : ℕ) (t : StructShape) → slice_get structs s ≡ Some t → shape_size structs (shape.Struct s) ≡ t.size
 struct_size structs s t is = ap (λ (o : Option StructShape). unwrap_or (option_map (λ (t : StructShape). t.size) o) 0) is
 
-lies_in : (structs : List StructShape) (at : ℕ) (x : Shape) (b : ℕ) (y : Shape) → AreNested structs → Part structs is_any at x b y → LiesIn at (shape_size structs x) b (shape_size structs y)
+pub lies_in : (structs : List StructShape) (at : ℕ) (x : Shape) (b : ℕ) (y : Shape) → AreNested structs → Part structs is_any at x b y → LiesIn at (shape_size structs x) b (shape_size structs y)
 lies_in structs at x b y nested (whole e f) = subst (λ (z : Shape). LiesIn at (shape_size structs x) b (shape_size structs z)) (sym f) (record { from = omega arith; to = omega arith })
 lies_in structs at x b y nested (member c s k j t m p is mem passes l e f) =
     let outer = lies_in structs at x c (shape.Struct s) nested p in
@@ -65,7 +65,7 @@ zero_place blocks elems structs sibling bytes at (shape.Pointer elem b) h = null
 zero_place blocks elems structs sibling bytes at (shape.Struct s) h = tt
 zero_place blocks elems structs sibling bytes at shape.Address h = tt
 
-zero_part : (bytes : List ℕ) (at size b n : ℕ) → LiesIn at size b n → AreZero bytes at size → AreZero bytes b n
+pub zero_part : (bytes : List ℕ) (at size b n : ℕ) → LiesIn at size b n → AreZero bytes at size → AreZero bytes b n
 zero_part bytes at size b n l zeros i below =
     let e : at + (b - at + i) ≡ b + i = omega (arith, l.from) in
     subst (λ (k : ℕ). slice_index_or bytes k 0 ≡ 0) e (zeros (b - at + i) (omega (arith, l.from, l.to)))

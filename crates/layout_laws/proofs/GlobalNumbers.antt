@@ -24,7 +24,8 @@ use Rattle.layout_laws.proofs.Declarations.{adds_struct, adds_global, adds_body,
 use Rattle.layout_laws.proofs.GlobalsDeclared.{IsGlobalOf, globals_added}
 use Rattle.layout_laws.proofs.Lists.{zip_at}
 use Rattle.layout_laws.proofs.Outcomes.{Declared}
-use Rattle.layout_laws.proofs.Places.{AreFresh, fresh_at, named_at, element_at, with_name_new, with_name_length}
+use Rattle.deputy_types.proofs.DeclaredFacts.{with_name_length}
+use Rattle.layout_laws.proofs.Places.{AreFresh, fresh_at, named_at, element_at, with_name_new}
 use Rattle.layout_laws.proofs.Steps.{types_in, found_in, steps}
 use Rattle.layout_laws.proofs.StructsDeclared.{nothing_is_declared}
 

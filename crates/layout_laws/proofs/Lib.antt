@@ -1,6 +1,5 @@
 pub mod Outcomes
 pub mod Steps
-pub mod TypeExtents
 pub mod StructExtents
 pub mod Declarations
 pub mod Passes

@@ -15,11 +15,12 @@ use Rattle.deputy_types.specs.declared.global.GlobalShape.{GlobalShape}
 use Rattle.deputy_types.specs.declared.refusal.TypeRefusal.TheVariants as refusal
 use Rattle.deputy_types.specs.declared.types.Types.{Types}
 use Rattle.deputy_types.specs.Extents.{no_extent, type_extent, round_up_to}
+use Rattle.deputy_types.specs.Functions.{functions_of}
 use Rattle.deputy_types.specs.StructLayout.{Surroundings, or_no_decl, field_declared, within_limits, placed, with_plain, arms_extent, with_arms_in_turn, is_new_union, with_union_of, with_union_arms, with_union_at, with_union, with_any_field, empty_struct, with_fields_in_turn, laid_out, struct_siblings}
 use Rattle.deputy_types.specs.Table.{Table}
 use Rattle.deputy_types.specs.UnitLayout.{nothing_declared, with_global_shape, with_taken, strings_behind, with_item, with_items, table_of}
 use Rattle.deputy_types.proofs.Inversions.{ok_then, if_ok}
-use Rattle.layout_laws.specs.Limits.{function_items, IsSmall, EachIsWithinLimits}
+use Rattle.layout_laws.specs.Limits.{IsSmall, EachIsWithinLimits}
 use Rattle.layout_laws.specs.StructTable.{struct_items}
 use Rattle.layout_laws.proofs.Declarations.{adds_struct, adds_global, adds_body, items_within}
 use Rattle.layout_laws.proofs.GlobalsDeclared.{globals_added}
@@ -40,7 +41,7 @@ same_bodies : (d next out : Declared) (n : ℕ) → next.bodies ≡ d.bodies →
 same_bodies d next out n e c = record { all = let a = c.all in omega arith; few = c.few }
 
 bodies_counted : (types : Types) (ends : List ℕ) (d out : Declared) (items : List Item) → d.bodies ≤ 4096 → with_items types ends d items ≡ Ok out
-    → CountsBodies d out (length (function_items items))
+    → CountsBodies d out (length (functions_of items))
 unfolding with_item with_global_shape
 bodies_counted types ends d out [] few h =
     let e : d ≡ out = cc in
@@ -49,12 +50,12 @@ bodies_counted types ends d out (item.Struct s ∷ xs) few h =
     let a = ok_then (with_item types ends d (item.Struct s)) (λ next. with_items types ends next xs) out h in
     let one = adds_struct types d s a.0 a.1 in
     let same : a.0.bodies ≡ d.bodies = ap (λ (x : Declared). x.bodies) (sym one.next) in
-    same_bodies d a.0 out (length (function_items xs)) same (bodies_counted types ends a.0 out xs (omega arith) a.2)
+    same_bodies d a.0 out (length (functions_of xs)) same (bodies_counted types ends a.0 out xs (omega arith) a.2)
 bodies_counted types ends d out (item.Global g ∷ xs) few h =
     let a = ok_then (with_item types ends d (item.Global g)) (λ next. with_items types ends next xs) out h in
     let one = adds_global types d g a.0 a.1 in
     let same : a.0.bodies ≡ d.bodies = ap (λ (x : Declared). x.bodies) (sym one.next) in
-    same_bodies d a.0 out (length (function_items xs)) same (bodies_counted types ends a.0 out xs (omega arith) a.2)
+    same_bodies d a.0 out (length (functions_of xs)) same (bodies_counted types ends a.0 out xs (omega arith) a.2)
 bodies_counted types ends d out (item.Function f ∷ xs) few h =
     let a = ok_then (with_item types ends d (item.Function f)) (λ next. with_items types ends next xs) out h in
     let one = adds_body d f.head.name f.head.line (strings_behind ends d) a.0 a.1 in
@@ -63,7 +64,7 @@ bodies_counted types ends d out (item.Function f ∷ xs) few h =
     let rest = bodies_counted types ends a.0 out xs (omega arith) a.2 in
     record { all = let r = rest.all in omega arith; few = rest.few }
 bodies_counted types ends d out (item.Prototype p ∷ xs) few h =
-    same_bodies d (with_taken d p.name) out (length (function_items xs)) refl (bodies_counted types ends (with_taken d p.name) out xs few h)
+    same_bodies d (with_taken d p.name) out (length (functions_of xs)) refl (bodies_counted types ends (with_taken d p.name) out xs few h)
 
 -- ---- fields
 placed_counts : (x : Laying) (line : ℕ) (y : Shape) (count : ℕ) (extent : Extent) (out : Laying) → placed x line y count extent ≡ Ok out → out.fields ≡ x.fields + 1

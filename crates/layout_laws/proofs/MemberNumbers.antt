@@ -61,7 +61,7 @@ numbered_at all n (suc k) (x ∷ xs) m h e =
     numbered_at all (n + 1) k xs m h.1 e ∙ ap (λ (i : ℕ). Some i) place
 
 -- a name that was tested has the number that comes next
-first_number : (siblings : Siblings) (m : ℕ) (part : Option ℕ) (name : List ℕ) → is_first siblings m part name ≡ true → member_number siblings.names part name ≡ Some m
+pub first_number : (siblings : Siblings) (m : ℕ) (part : Option ℕ) (name : List ℕ) → is_first siblings m part name ≡ true → member_number siblings.names part name ≡ Some m
 unfolding is_first
 first_number siblings m part name h = number_found m (member_number siblings.names part name) h
 

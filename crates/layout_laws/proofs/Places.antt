@@ -62,12 +62,3 @@ element_at (x ∷ xs) (suc k) l = element_at xs k (omega arith)
 pub with_name_new : (names : List (List ℕ)) (x : List ℕ) → list_any (bytes_eq x) names ≡ false → length names < 2 ^ 32 - 1 → with_name names x ≡ names ++ x ∷ []
 unfolding with_name
 with_name_new names x absent room = cond-false (list_any (bytes_eq x) names) _ _ absent ∙ cond-true (nat_lt (length names) (2 ^ 32 - 1)) _ _ (lt-ltb (length names) (2 ^ 32 - 1) room)
-
-named_length : (names : List (List ℕ)) (x : List ℕ) (known room : Bool) → length (cond known names (cond room (names ++ x ∷ []) names)) ≤ length names + 1
-named_length names x true room = omega arith
-named_length names x false true = rw length_push (omega arith)
-named_length names x false false = omega arith
-
-pub with_name_length : (names : List (List ℕ)) (x : List ℕ) → length (with_name names x) ≤ length names + 1
-unfolding with_name
-with_name_length names x = named_length names x _ _

@@ -18,7 +18,7 @@ use Rattle.deputy_types.specs.StructLayout.{Surroundings, IsLaying, or_no_decl, 
 use Rattle.deputy_types.proofs.Inversions.{ok_then, if_ok, unless_ok}
 use Rattle.layout_laws.proofs.Outcomes.{Arms, Laid, Laying}
 use Rattle.layout_laws.proofs.Steps.{else_ok}
-use Rattle.layout_laws.proofs.TypeExtents.{IsAlign, align_of, max_align, no_extent_is, type_is_extent, arms_is_extent}
+use Rattle.deputy_types.proofs.TypeExtents.{IsAlign, align_of, max_align, no_extent_is, type_is_extent, arms_is_extent}
 
 -- a field that ends within the limits
 record EndsWithin (fields end out : ℕ) : Type 0 where

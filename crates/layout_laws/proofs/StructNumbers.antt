@@ -14,7 +14,8 @@ use Rattle.deputy_types.specs.Types.{struct_number}
 use Rattle.layout_laws.specs.Lookups.{EachStructIsFound}
 use Rattle.layout_laws.specs.StructTable.{struct_items}
 use Rattle.layout_laws.proofs.Outcomes.{Laid}
-use Rattle.layout_laws.proofs.Places.{named_at, element_at, with_name_length}
+use Rattle.deputy_types.proofs.DeclaredFacts.{with_name_length}
+use Rattle.layout_laws.proofs.Places.{named_at, element_at}
 use Rattle.layout_laws.proofs.Steps.{types_in}
 use Rattle.layout_laws.proofs.StructsDeclared.{laid_at, layouts_of}
 

@@ -21,7 +21,7 @@ use Rattle.layout_laws.specs.StructTable.{struct_items, HasStruct, EachStructIsD
 use Rattle.layout_laws.proofs.Declarations.{items_within}
 use Rattle.layout_laws.proofs.Passes.{AreLaid, extents_of, shapes_of, names_of, passes}
 use Rattle.layout_laws.proofs.Steps.{types_in, found_in, steps}
-use Rattle.layout_laws.proofs.TypeExtents.{no_extent_is}
+use Rattle.deputy_types.proofs.TypeExtents.{no_extent_is}
 
 -- ---- one by one
 pub laid_length : (types : Types) (extents : List Extent) (n : ℕ) (items : List StructItem) (laid : List Laid) → AreLaid types extents n items laid → length laid ≡ length items

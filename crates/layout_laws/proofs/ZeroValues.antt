@@ -12,24 +12,11 @@ use Rattle.checked_tree.specs.declared.shapes.StructShape.{StructShape}
 use Rattle.checked_tree.specs.Numbers.{converted, scalar_size}
 use Rattle.deputy_types.specs.Fitting.{shape_size, Part, whole, member, is_any, place_value, AreZero, AreNested}
 use Rattle.deputy_types.specs.Table.{Table}
-use Rattle.deputy_types.proofs.ZeroFits.{zero_fits}
+use Rattle.deputy_types.proofs.ZeroFits.{zero_bytes, lies_in, zero_part, zero_fits}
 use Rattle.layout_laws.specs.ZeroBytes.{AreNull, IsValidZero, ZeroIsValid}
 use Rattle.layout_laws.proofs.StructsDeclared.{structs_nested}
 
 -- ---- zero bytes are the number 0
-zero_number : (n : ℕ) (xs : List ℕ) → ((i : ℕ) → i < n → get_or xs i 0 ≡ 0) → little_endian (take n xs) ≡ 0
-unfolding little_endian
-zero_number zero xs h = refl
-zero_number (suc n) [] h = refl
-zero_number (suc n) (b ∷ xs) h =
-    let here : b ≡ 0 = h 0 (omega arith) in
-    let rest : little_endian (take n xs) ≡ 0 = zero_number n xs (λ i l. h (suc i) (omega arith)) in
-    omega (arith, here, rest)
-
-zero_bytes : (bytes : List ℕ) (at n : ℕ) → AreZero bytes at n → little_endian (bytes_at bytes at n) ≡ 0
-unfolding bytes_at
-zero_bytes bytes at n h = zero_number n (drop at bytes) (λ i l. get_or-drop at bytes i 0 ∙ h i l)
-
 -- 0 is 0 in each integer type
 pub zero_converted : (s : Scalar) → converted s (pos 0) ≡ pos 0
 unfolding converted
@@ -48,36 +35,7 @@ zero_place structs bytes at (shape.Pointer elem b) h = ap (λ (n : ℕ). pos n) 
 zero_place structs bytes at (shape.Struct s) h = refl
 zero_place structs bytes at shape.Address h = ap (λ (n : ℕ). pos n) (zero_bytes bytes at 4 h)
 
--- ---- the parts of a place lie within it
-at_member : (structs : List StructShape) (t : StructShape) (k j : ℕ) (m : Member)
-    → All (λ (x : Member). x.offset + x.count * shape_size structs x.shape ≤ t.size) t.members → slice_get t.members k ≡ Some m → j < m.count
-    → m.offset + j * shape_size structs m.shape + shape_size structs m.shape ≤ t.size
-at_member structs t k j m all is l =
-    let within : m.offset + m.count * shape_size structs m.shape ≤ t.size =
-    subst (λ (x : Member). x.offset + x.count * shape_size structs x.shape ≤ t.size) (get_or_from_slice_get t.members k m m is) (all k m (slice_get_within t.members k m is)) in
-    let more : (j + 1) * shape_size structs m.shape ≤ m.count * shape_size structs m.shape = grind arith in
-    grind arith
-
-record LiesIn (at size b n : ℕ) : Type 0 where
-  from : at ≤ b
-  to : b + n ≤ at + size
-
-struct_size : (structs : List StructShape) (s : ℕ) (t : StructShape) → slice_get structs s ≡ Some t → shape_size structs (shape.Struct s) ≡ t.size
-struct_size structs s t is = ap (λ (o : Option StructShape). unwrap_or (option_map (λ (t : StructShape). t.size) o) 0) is
-
-lies_in : (structs : List StructShape) (at : ℕ) (x : Shape) (b : ℕ) (y : Shape) → AreNested structs → Part structs is_any at x b y → LiesIn at (shape_size structs x) b (shape_size structs y)
-lies_in structs at x b y nested (whole e f) = subst (λ (z : Shape). LiesIn at (shape_size structs x) b (shape_size structs z)) (sym f) (record { from = omega arith; to = omega arith })
-lies_in structs at x b y nested (member c s k j t m p is mem passes l e f) =
-    let outer = lies_in structs at x c (shape.Struct s) nested p in
-    let size = struct_size structs s t is in
-    let inner = at_member structs t k j m (nested s t is) mem l in
-    subst (λ (z : Shape). LiesIn at (shape_size structs x) b (shape_size structs z)) (sym f) (record { from = omega (arith, outer.from); to = omega (arith, outer.to, size, inner) })
-
-zero_part : (bytes : List ℕ) (at size b n : ℕ) → LiesIn at size b n → AreZero bytes at size → AreZero bytes b n
-zero_part bytes at size b n l zeros i below =
-    let e : at + (b - at + i) ≡ b + i = omega (arith, l.from) in
-    subst (λ (k : ℕ). slice_index_or bytes k 0 ≡ 0) e (zeros (b - at + i) (omega (arith, l.from, l.to)))
-
+-- ---- zero bytes are null
 zero_null : (structs : List StructShape) (bytes : List ℕ) (at : ℕ) (x : Shape) → AreNested structs → AreZero bytes at (shape_size structs x) → AreNull structs bytes at x
 zero_null structs bytes at x nested zeros = record {
   whole = zero_place structs bytes at x zeros;

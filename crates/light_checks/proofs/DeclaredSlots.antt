@@ -37,6 +37,7 @@ use Rattle.deputy_types.specs.Siblings.{is_member, sibling_number, role_of, is_n
 use Rattle.deputy_types.specs.Table.{Table}
 use Rattle.deputy_types.specs.Types.{element_number, pointed_key, last_star}
 use Rattle.deputy_types.proofs.Inversions.{some_then, some_map}
+use Rattle.layout_laws.proofs.Lists.{slice_front, slice_behind}
 use Rattle.light_checks.specs.Standing.{Stands}
 use Rattle.light_checks.specs.Within.{is_integer, shape_at, IsEdge, IsBounds, IsShape, AreShapes}
 use Rattle.light_checks.specs.Words.{IsReadable}
@@ -234,25 +235,12 @@ declared_at locals shapes i (e ∷ ds) zero d s h =
 declared_at locals shapes i (e ∷ ds) (suc k) d s h = subst (λ n. is_declared shapes n ≡ true) (omega arith) (declared_at locals shapes (i + 1) ds k d s.1 h)
 
 -- ---- the shapes of slots
--- the elements of a list behind which others stand
-pub front_at : {X : Type 0} (xs ys : List X) (k : ℕ) (x : X) → slice_get xs k ≡ Some x → slice_get (xs ++ ys) k ≡ Some x
-front_at [] ys k x h = absurd cc
-front_at (y ∷ xs) ys zero x h = h
-front_at (y ∷ xs) ys (suc k) x h = front_at xs ys k x h
-
-back_at : {X : Type 0} (xs ys : List X) (k : ℕ) (x : X) → slice_get ys k ≡ Some x → slice_get (xs ++ ys) (length xs + k) ≡ Some x
-back_at [] ys k x h = subst (λ n. slice_get ys n ≡ Some x) (omega arith) h
-back_at (y ∷ xs) ys k x h = subst (λ n. slice_get (y ∷ (xs ++ ys)) n ≡ Some x) (more (length xs) k) (back_at xs ys k x h)
-  where
-    more : (n k : ℕ) → suc (n + k) ≡ suc n + k
-    more n k = omega arith
-
 hidden_at : (ls : List Local) (shapes : List (Option Shape)) (k : ℕ) (x : Option Shape) → slice_get shapes k ≡ Some x → slice_get (with_hidden ls shapes) k ≡ Some x
 hidden_at [] shapes k x h = h
 hidden_at (l ∷ ls) shapes k x h = hidden_at ls (if is_automatic l then shapes ++ (Some shape.Address ∷ Some shape.Address ∷ []) else shapes) k x (by (is_automatic l))
   where
     by : (b : Bool) → slice_get (if b then shapes ++ (Some shape.Address ∷ Some shape.Address ∷ []) else shapes) k ≡ Some x
-    by true = front_at shapes (Some shape.Address ∷ Some shape.Address ∷ []) k x h
+    by true = slice_front shapes (Some shape.Address ∷ Some shape.Address ∷ []) k x h
     by false = h
 
 all_hidden : (P : Option Shape → Type 0) (ls : List Local) (shapes : List (Option Shape)) → P (Some shape.Address) → All P shapes → All P (with_hidden ls shapes)
@@ -453,7 +441,7 @@ module _ (t : Table) (sizes : (key : Element) → (key_extent t.extents key).byt
   unfolding slot_shapes
   param_in k d h =
       hidden_at ls (parameter_shapes t ps ++ map (local_shape t all_siblings) ls) k (named_shape t Safe param_siblings d.0 d.1)
-      (front_at (parameter_shapes t ps) (map (local_shape t all_siblings) ls) k (named_shape t Safe param_siblings d.0 d.1) (param_at k d h))
+      (slice_front (parameter_shapes t ps) (map (local_shape t all_siblings) ls) k (named_shape t Safe param_siblings d.0 d.1) (param_at k d h))
 
   params_length : length (parameter_shapes t ps) ≡ length pd
   unfolding parameter_shapes
@@ -472,7 +460,7 @@ module _ (t : Table) (sizes : (key : Element) → (key_extent t.extents key).byt
             all_siblings,
             hidden_at ls (parameter_shapes t ps ++ map (local_shape t all_siblings) ls) k o
                 (subst (λ n. slice_get (parameter_shapes t ps ++ map (local_shape t all_siblings) ls) n ≡ Some o) (ap (λ n. n + j) params_length ∙ sym e)
-                (back_at (parameter_shapes t ps) (map (local_shape t all_siblings) ls) j o (mapped_named t Hidden all_siblings local_decl ls j d g))),
+                (slice_behind (parameter_shapes t ps) (map (local_shape t all_siblings) ls) j (length (parameter_shapes t ps)) o refl (mapped_named t Hidden all_siblings local_decl ls j d g))),
           )
 
   all_there : (k : ℕ) (d : Decl) → slice_get (pd ++ ld) k ≡ Some d → is_declared final k ≡ true
@@ -483,12 +471,12 @@ module _ (t : Table) (sizes : (key : Element) → (key_extent t.extents key).byt
 
   param_integers : (k : ℕ) → role_of param_siblings k ≡ Some role.Integer → is_integer (shape_at final k) ≡ true
   param_integers =
-      integer_at_role t pd param_siblings final params_aligned (λ k d h. (Safe, param_siblings, param_in k d h)) (λ k d h. all_there k d (front_at pd ld k d h))
+      integer_at_role t pd param_siblings final params_aligned (λ k d h. (Safe, param_siblings, param_in k d h)) (λ k d h. all_there k d (slice_front pd ld k d h))
 
   own_integers : (k : ℕ) → role_of param_siblings k ≡ Some role.Integer → is_integer (shape_at (parameter_shapes t ps) k) ≡ true
   own_integers =
       integer_at_role t pd param_siblings (parameter_shapes t ps) params_aligned (λ k d h. (Safe, param_siblings, param_at k d h))
-      (λ k d h. ap (λ q. is_some (option_flatten q)) (param_at k d h) ∙ (sym (ap (λ q. is_some (option_flatten q)) (param_in k d h)) ∙ all_there k d (front_at pd ld k d h)))
+      (λ k d h. ap (λ q. is_some (option_flatten q)) (param_at k d h) ∙ (sym (ap (λ q. is_some (option_flatten q)) (param_in k d h)) ∙ all_there k d (slice_front pd ld k d h)))
 
   -- the parameters, as calls see them
   pub parameters_are : AreShapes (parameter_shapes t ps)

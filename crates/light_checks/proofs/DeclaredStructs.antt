@@ -40,59 +40,18 @@ use Rattle.deputy_types.specs.Options.{and_then}
 use Rattle.deputy_types.specs.Siblings.{is_member, member_number, role_of, is_new_member, with_member, with_sibling, no_siblings}
 use Rattle.deputy_types.specs.StructLayout.{Surroundings, or_no_decl, tags_of, with_field_sibling, with_arm_siblings, next_part, field_siblings, struct_siblings, is_number, is_first, is_new_field, field_shape, field_declared, is_complete, if_complete, siblings_of, counted, element_count, within_limits, placed, with_plain, arms_extent, const_value, arm_tag, if_number, arm_shape, with_arm_of, with_tagged_arm, with_arm, with_next_arm, with_arms_in_turn, is_new_union, with_union_of, with_union_arms, with_union_at, with_union, empty_struct, with_fields_in_turn, laid_out, head_of_struct, laid_with, struct_laid}
 use Rattle.deputy_types.specs.Types.{base_key}
+use Rattle.deputy_types.proofs.TypeExtents.{key_is_extent, no_extent_is, type_is_extent, arms_is_extent}
 use Rattle.deputy_types.proofs.Inversions.{some_then, some_map, if_some, ok_then, ok_declared, if_ok, unless_ok, within_is}
 use Rattle.light_checks.specs.Within.{is_integer, shape_at, IsShape, AreShapes}
 use Rattle.light_checks.specs.Words.{IsReadable}
 use Rattle.light_checks.proofs.DeclaredSides.{IsCounted, IsRoled, IsRoledShape, shape_roled}
-use Rattle.light_checks.proofs.DeclaredSlots.{role_integer, not_before, joined, is_new, map_push, front_at, append_at, map_length, roled_shape_is}
+use Rattle.light_checks.proofs.DeclaredSlots.{role_integer, not_before, joined, is_new, map_push, append_at, map_length, roled_shape_is}
 use Rattle.light_checks.proofs.Ensuring.{some_same, given}
-use Rattle.light_checks.proofs.PrivateTypes.{Laying, Arms, Laid}
+use Rattle.layout_laws.proofs.Lists.{slice_front}
+use Rattle.layout_laws.proofs.MemberNumbers.{first_number}
+use Rattle.layout_laws.proofs.Outcomes.{Laying, Arms, Laid}
 
 -- ---- extents
-natural_is : (n : ℕ) → n ≤ 4 → 1 ≤ n → n ≢ 3 → IsExtent (natural n)
-natural_is n a b c = record { bytes = omega arith; least = b; greatest = a; other = c }
-
-pub key_is : (extents : List Extent) (key : Element) → AreExtents extents → IsExtent (key_extent extents key)
-key_is extents (element.Int scalar.Void) h = record { bytes = omega arith; least = omega arith; greatest = omega arith; other = omega arith }
-key_is extents (element.Int scalar.U8) h = natural_is 1 (omega arith) (omega arith) (omega arith)
-key_is extents (element.Int scalar.I8) h = natural_is 1 (omega arith) (omega arith) (omega arith)
-key_is extents (element.Int scalar.U16) h = natural_is 2 (omega arith) (omega arith) (omega arith)
-key_is extents (element.Int scalar.I16) h = natural_is 2 (omega arith) (omega arith) (omega arith)
-key_is extents (element.Int scalar.I32) h = natural_is 4 (omega arith) (omega arith) (omega arith)
-key_is extents (element.Int scalar.U32) h = natural_is 4 (omega arith) (omega arith) (omega arith)
-key_is extents (element.Int (scalar.Pointer n)) h = natural_is 4 (omega arith) (omega arith) (omega arith)
-key_is extents (element.Struct s) h = h.each s
-key_is extents (element.Sentinel n) h = natural_is 4 (omega arith) (omega arith) (omega arith)
-key_is extents (element.Nullterm n) h = natural_is 4 (omega arith) (omega arith) (omega arith)
-key_is extents (element.Count n k) h = natural_is 4 (omega arith) (omega arith) (omega arith)
-
-no_extent_is : IsExtent no_extent
-no_extent_is = record { bytes = omega arith; least = omega arith; greatest = omega arith; other = omega arith }
-
-base_is : (extents : List Extent) (base : Option Element) → AreExtents extents → IsExtent (unwrap_or (option_map (key_extent extents) base) no_extent)
-base_is extents None h = no_extent_is
-base_is extents (Some key) h = key_is extents key h
-
-stars_is : (extent : Extent) (stars : List Star) → IsExtent extent → IsExtent (stars_extent extent stars)
-stars_is extent [] h = h
-stars_is extent (s ∷ ss) h = natural_is 4 (omega arith) (omega arith) (omega arith)
-
-type_is : (types : Types) (extents : List Extent) (t : TypeName) → AreExtents extents → IsExtent (type_extent types extents t)
-unfolding type_extent
-type_is types extents t h = stars_is _ t.stars (base_is extents (base_key types.structs t.base) h)
-
-greater_is : (x y : Extent) → IsExtent x → IsExtent y → IsExtent (greater x y)
-greater_is x y p q = record {
-  bytes = omega (arith, p.bytes, q.bytes);
-  least = omega (arith, p.least, q.least);
-  greatest = omega (arith, p.greatest, q.greatest);
-  other = omega (arith, p.other, q.other);
-}
-
-arms_is : (types : Types) (extents : List Extent) (x : Extent) (arms : List Arm) → AreExtents extents → IsExtent x → IsExtent (arms_extent types extents x arms)
-arms_is types extents x [] h p = p
-arms_is types extents x (a ∷ arms) h p = arms_is types extents (greater x (type_extent types extents a.type_name)) arms h (greater_is x (type_extent types extents a.type_name) p (type_is types extents a.type_name h))
-
 rounded_small : (align n : ℕ) → 1 ≤ align → align ≤ 4 → align ≢ 3 → n ≤ 65536 → round_up_to align n ≤ 65536
 rounded_small zero n l g o h = absurd (omega arith)
 rounded_small (suc zero) n l g o h = grind arith
@@ -154,7 +113,7 @@ integer_front xs ys k h = by (slice_get xs k) refl h
   where
     by : (o : Option (Option Shape)) → slice_get xs k ≡ o → is_integer (option_flatten o) ≡ true → is_integer (shape_at (xs ++ ys) k) ≡ true
     by None e h = absurd (false≢true h)
-    by (Some x) e h = ap (λ q. is_integer (option_flatten q)) (front_at xs ys k x e) ∙ h
+    by (Some x) e h = ap (λ q. is_integer (option_flatten q)) (slice_front xs ys k x e) ∙ h
 
 end_at : {X : Type 0} (xs : List X) (x : X) → slice_get (xs ++ x ∷ []) (length xs) ≡ Some x
 end_at [] x = refl
@@ -240,15 +199,6 @@ limits_hold line fields end out h =
     let b = two_limits (nat_le 64 fields) (nat_lt 65536 end) (refusal.Limit line limit.Fields) (refusal.Limit line limit.Size) end out h in
     (leb-false 64 fields b.0, ltb-false 65536 end b.1)
 
--- a member is the first of its name
-number_found : (m : ℕ) (o : Option ℕ) → is_number m o ≡ true → o ≡ Some m
-number_found m None h = absurd cc
-number_found m (Some k) h = ap (λ n. Some n) (eqb-true k m h)
-
-first_found : (siblings : Siblings) (m : ℕ) (part : Option ℕ) (name : List ℕ) → is_first siblings m part name ≡ true → member_number siblings.names part name ≡ Some m
-unfolding is_first
-first_found siblings m part name h = number_found m (member_number siblings.names part name) h
-
 if_true : {A : Type 0} (t : Bool) (x : Option A) (a : A) → (if t then x else None) ≡ Some a → t ≡ true
 if_true true x a h = refl
 if_true false x a h = absurd cc
@@ -279,7 +229,7 @@ nowhere_shape siblings shape.Address r = tt
 
 module _ (at : Surroundings) (extents : AreExtents at.extents) where
   sizes : (key : Element) → (key_extent at.extents key).bytes ≤ 65536
-  sizes key = (key_is at.extents key extents).bytes
+  sizes key = (key_is_extent at.extents key extents).bytes
 
   field_roled : (m : ℕ) (d : Declaration) (x : Shape) → IsReadable (type_words d.type_name) → field_shape at m d ≡ Some x
       → IsRoledShape at.siblings x × ((tag : Bool) → declared_role at.types (is_some d.size) tag d.type_name ≡ role.Integer → is_integer (Some x) ≡ true)
@@ -302,11 +252,11 @@ module _ (at : Surroundings) (extents : AreExtents at.extents) where
   plain_sound tags s laying line d out sound more r few h =
       let m : ℕ = length laying.members in
       let extent : Extent = type_extent at.types at.extents d.type_name in
-      let is = type_is at.types at.extents d.type_name extents in
+      let is = type_is_extent at.types at.extents d.type_name extents in
       let a = ok_then (or_no_decl line (field_declared at laying d)) (λ x. placed laying line x.0 x.1 extent) out h in
       let declared = ok_declared line (field_declared at laying d) a.0 a.1 in
       let new = if_true (is_new_field at laying d.name) (counted (field_shape at m d) (element_count d.size)) a.0 declared in
-      let first = first_found at.siblings m None d.name (and_parts (is_first at.siblings m None d.name) (not (list_any (bytes_eq d.name) laying.names)) new).0 in
+      let first = first_number at.siblings m None d.name (and_parts (is_first at.siblings m None d.name) (not (list_any (bytes_eq d.name) laying.names)) new).0 in
       let c = if_some (is_new_field at laying d.name) (counted (field_shape at m d) (element_count d.size)) a.0 declared in
       let x = some_then (field_shape at m d) (λ y. option_map (λ (n : ℕ). (y, n)) (element_count d.size)) a.0 c in
       let n = some_map (element_count d.size) (λ (n : ℕ). (x.0, n)) a.0 x.2 in
@@ -366,7 +316,7 @@ module _ (at : Surroundings) (extents : AreExtents at.extents) where
   arm_sound unions part start offset s arms out a t more small r few h =
       let value : ℤ = const_value a.value in
       let rest = and_then (arm_tag at unions start arms a.tag value) (with_tagged_arm at part offset arms a) in
-      let first = first_found at.siblings (length arms.members) (Some part) a.name (if_true (is_first at.siblings (length arms.members) (Some part) a.name) rest out h) in
+      let first = first_number at.siblings (length arms.members) (Some part) a.name (if_true (is_first at.siblings (length arms.members) (Some part) a.name) rest out h) in
       let c = if_some (is_first at.siblings (length arms.members) (Some part) a.name) rest out h in
       let k = some_then (arm_tag at unions start arms a.tag value) (with_tagged_arm at part offset arms a) out c in
       let x = some_map (arm_shape at a) (with_arm_of part offset arms value k.0) out k.2 in
@@ -404,7 +354,7 @@ module _ (at : Surroundings) (extents : AreExtents at.extents) where
   unfolding with_union with_union_at with_union_arms with_union_of
   union_sound s laying line arms name out sound more r few h =
       let extent : Extent = arms_extent at.types at.extents no_extent arms in
-      let is : IsExtent extent = arms_is at.types at.extents no_extent arms extents no_extent_is in
+      let is : IsExtent extent = arms_is_extent at.types at.extents no_extent arms extents no_extent_is in
       let offset : ℕ = round_up_to extent.align laying.end in
       let u = if_ok (is_new_union at laying name) (with_union_at at laying line arms name extent) (refusal.NoDecl line) out h in
       let a = ok_then (within_limits line laying.fields (offset + extent.bytes)) (with_union_arms at laying arms name offset extent) out u in

@@ -33,13 +33,15 @@ use Rattle.deputy_types.specs.StructLayout.{or_no_decl, element_count, empty_str
 use Rattle.deputy_types.specs.Table.{element_at, member_key}
 use Rattle.deputy_types.specs.Types.{base_key, star_key, stars_key, type_key, element_number}
 use Rattle.deputy_types.specs.UnitLayout.{nothing_declared, is_new_global, first_value, if_declared, global_of, global_declared, with_global_shape, with_global, with_struct, with_taken, with_body, with_function, strings_behind, with_item, with_items, image_end, next_base, with_block, global_block, with_global_block, with_global_blocks, string_block, with_string_block, with_string_blocks, empty_image, image_of, with_laid, no_structs, with_next_struct, with_item_struct, structs_of, table_of}
+use Rattle.deputy_types.proofs.DeclaredFacts.{extents-push}
+use Rattle.deputy_types.proofs.TypeExtents.{key_is_extent}
 use Rattle.deputy_types.proofs.Inversions.{some_then, some_map, if_some, ok_then, ok_declared, unless_ok}
 use Rattle.deputy_types.proofs.KeyCounts.{star_keys, base_keys}
 use Rattle.light_checks.specs.Within.{AreShapes, IsTable}
 use Rattle.light_checks.proofs.Annotating.{looked_up}
-use Rattle.light_checks.proofs.DeclaredStructs.{key_is, count_small, AreReadableFields, count_members, struct_within}
+use Rattle.light_checks.proofs.DeclaredStructs.{count_small, AreReadableFields, count_members, struct_within}
 use Rattle.light_checks.proofs.Ensuring.{given}
-use Rattle.light_checks.proofs.PrivateTypes.{Laid, Declared, Image, Structs}
+use Rattle.layout_laws.proofs.Outcomes.{Laid, Declared, Image, Structs}
 
 pub ok_same : {A : Type 0} (a b : A) → ◌≡◌ {A = Result A TypeRefusal} (Ok a) (Ok b) → a ≡ b
 ok_same a b h = cc
@@ -100,15 +102,6 @@ nothing_fine = record { extents = record { each = λ s. none_at s }; globals = A
   where
     none_at : (s : ℕ) → IsExtent (struct_extent [] s)
     none_at s = record { bytes = omega arith; least = omega arith; greatest = omega arith; other = omega arith }
-
-extent_at : (extents : List Extent) (x : Extent) (s : ℕ) → ((t : ℕ) → IsExtent (struct_extent extents t)) → IsExtent x → IsExtent (struct_extent (extents ++ x ∷ []) s)
-extent_at [] x zero each h = h
-extent_at [] x (suc s) each h = each 0
-extent_at (y ∷ ys) x zero each h = each 0
-extent_at (y ∷ ys) x (suc s) each h = extent_at ys x s (λ t. each (suc t)) h
-
-extents-push : (extents : List Extent) (x : Extent) → AreExtents extents → IsExtent x → AreExtents (extents ++ x ∷ [])
-extents-push extents x all h = record { each = λ s. extent_at extents x s all.each h }
 
 struct_fine : (types : Types) (d out : Declared) (s : StructItem) → IsFine d → AreReadableFields s.fields → count_members s.fields ≤ 200000 → with_struct types d s ≡ Ok out → IsFine out
 unfolding with_struct
@@ -281,7 +274,7 @@ flat_key (Some (Some j)) k h = cc
 pub table_is : (types : Types) (d : Declared) (image : Image) (structs : Structs) → All IsKey types.elements → IsFine d → All IsBlock image.blocks → AreFine structs → IsTable (table_of types d image structs)
 unfolding table_of element_at member_key
 table_is types d image structs keys fine blocks are = record {
-  sizes = λ key. (key_is d.extents key fine.extents).bytes;
+  sizes = λ key. (key_is_extent d.extents key fine.extents).bytes;
   elements = λ n key h. looked_up IsKey types.elements n key keys h;
   keys = λ s m key h.
       let r = some_then (slice_get structs.names s) (λ n. option_flatten (slice_get n.keys m)) key h in

@@ -14,7 +14,6 @@ pub mod StatementRules
 pub mod Derivations
 pub mod DeclaredSides
 pub mod DeclaredSlots
-pub mod PrivateTypes
 pub mod DeclaredStructs
 pub mod DeclaredUnits
 pub mod FoundKeys

@@ -1,11 +1,8 @@
-pub mod BodyCounts
 pub mod FunctionSteps
 pub mod HeadPlaces
 pub mod ItemSteps
 pub mod LaidOut
-pub mod LayoutTypes
 pub mod Leftovers
-pub mod MemberCounts
 pub mod Numbers
 pub mod ShortItems
 pub mod SlotCounts

@@ -9,6 +9,7 @@ use Rattle.sd_base.specs.History.{Entry, is_owner}
 use Rattle.sd_base.specs.Blocks.{Block, blocks_after, granted}
 use Rattle.sd_base.proofs.Counting.{count_by-cons}
 use Rattle.sd_base.proofs.Removal.{without_last-none}
+use Rattle.share_table.proofs.OtherKinds.{count_by-apart}
 use Rattle.update_tracker.specs.declared.undo.Note.{Note}
 use Rattle.update_tracker.specs.declared.undo.Undo.{Undo}
 use Rattle.update_tracker.specs.NetPart.{in_front, is_block_update, is_block_entry, block_item, note_item, if_own, block_items, note_after, notes_of}
@@ -31,11 +32,6 @@ no_block owner e h = record {
 }
 
 -- Entries that are no grants and no releases of the owner may go: grants and releases stay.
-
-pub count-without_first : {X : Type 0} (p q : X → Bool) → ((x : X) → p x ≡ true → q x ≡ false) → (xs : List X) → count_by q (without_first p xs) ≡ count_by q xs
-count-without_first p q none [] = refl
-count-without_first p q none (x ∷ xs) =
-    grind (arith, none x, count_by-cons q x xs, count_by-cons q x (without_first p xs), count-without_first p q none xs)
 
 pub count-without_last : {X : Type 0} (p q : X → Bool) → ((x : X) → p x ≡ true → q x ≡ false) → (xs : List X) → count_by q (without_last p xs) ≡ count_by q xs
 count-without_last p q none [] = refl
@@ -102,7 +98,7 @@ notes-without_first_other owner p none no_row [] = refl
 notes-without_first_other owner p none no_row (e ∷ live) =
     elim (p e) as (λ b. p e ≡ b → notes_of owner (cond b live (e ∷ without_first p live)) ≡ notes_of owner (e ∷ live)) [
       | true ↦ λ is. sym (note_front owner live e None (no_row e is))
-      | false ↦ λ is. notes_front owner e (without_first p live) live (notes_of owner live) (count-without_first p (is_block_entry owner) none live) (notes-without_first_other owner p none no_row live)
+      | false ↦ λ is. notes_front owner e (without_first p live) live (notes_of owner live) (count_by-apart p (is_block_entry owner) none live) (notes-without_first_other owner p none no_row live)
     ] refl
 
 pub notes-without_last_other : (owner : ℕ) (p : Entry → Bool) → ((e : Entry) → p e ≡ true → is_block_entry owner e ≡ false) → ((e : Entry) → p e ≡ true → row owner e ≡ None) → (live : List Entry) →
@@ -162,7 +158,7 @@ notes-without_first owner p r none same (e ∷ live) =
     ∙ ap (λ b. cond b (notes_of owner live) (in_front note (without_first (on_item r) (notes_of owner live)))) (note_passes r (row owner e) after ∙ sym (same e)) in
     elim (p e) as (λ b. notes_of owner (cond b live (e ∷ without_first p live)) ≡ cond b (notes_of owner live) (in_front note (without_first (on_item r) (notes_of owner live)))) [
       | true ↦ refl
-      | false ↦ notes_front owner e (without_first p live) live (without_first (on_item r) (notes_of owner live)) (count-without_first p (is_block_entry owner) none live) (notes-without_first owner p r none same live)
+      | false ↦ notes_front owner e (without_first p live) live (without_first (on_item r) (notes_of owner live)) (count_by-apart p (is_block_entry owner) none live) (notes-without_first owner p r none same live)
     ]
     ∙ sym goes
 

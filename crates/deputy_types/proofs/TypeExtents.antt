@@ -12,13 +12,13 @@ use Rattle.deputy_types.specs.Extents.{IsExtent, AreExtents, natural, no_extent,
 use Rattle.deputy_types.specs.StructLayout.{arms_extent}
 use Rattle.deputy_types.specs.Types.{base_key}
 
-natural_is_extent : (n : ℕ) → n ≤ 4 → 1 ≤ n → n ≢ 3 → IsExtent (natural n)
+pub natural_is_extent : (n : ℕ) → n ≤ 4 → 1 ≤ n → n ≢ 3 → IsExtent (natural n)
 natural_is_extent n a b c = record { bytes = omega arith; least = b; greatest = a; other = c }
 
 pub no_extent_is : IsExtent no_extent
 no_extent_is = record { bytes = omega arith; least = omega arith; greatest = omega arith; other = omega arith }
 
-key_is_extent : (extents : List Extent) (key : Element) → AreExtents extents → IsExtent (key_extent extents key)
+pub key_is_extent : (extents : List Extent) (key : Element) → AreExtents extents → IsExtent (key_extent extents key)
 key_is_extent extents (element.Int scalar.Void) h = no_extent_is
 key_is_extent extents (element.Int scalar.U8) h = natural_is_extent 1 (omega arith) (omega arith) (omega arith)
 key_is_extent extents (element.Int scalar.I8) h = natural_is_extent 1 (omega arith) (omega arith) (omega arith)
@@ -32,11 +32,11 @@ key_is_extent extents (element.Sentinel n) h = natural_is_extent 4 (omega arith)
 key_is_extent extents (element.Nullterm n) h = natural_is_extent 4 (omega arith) (omega arith) (omega arith)
 key_is_extent extents (element.Count n k) h = natural_is_extent 4 (omega arith) (omega arith) (omega arith)
 
-base_is_extent : (extents : List Extent) (base : Option Element) → AreExtents extents → IsExtent (unwrap_or (option_map (key_extent extents) base) no_extent)
+pub base_is_extent : (extents : List Extent) (base : Option Element) → AreExtents extents → IsExtent (unwrap_or (option_map (key_extent extents) base) no_extent)
 base_is_extent extents None h = no_extent_is
 base_is_extent extents (Some key) h = key_is_extent extents key h
 
-stars_is_extent : (extent : Extent) (stars : List Star) → IsExtent extent → IsExtent (stars_extent extent stars)
+pub stars_is_extent : (extent : Extent) (stars : List Star) → IsExtent extent → IsExtent (stars_extent extent stars)
 stars_is_extent extent [] h = h
 stars_is_extent extent (s ∷ ss) h = natural_is_extent 4 (omega arith) (omega arith) (omega arith)
 
@@ -56,7 +56,7 @@ align_of x h = record { least = h.least; greatest = h.greatest; other = h.other 
 pub max_align : (a b : ℕ) → IsAlign a → IsAlign b → IsAlign (max a b)
 max_align a b h k = record { least = omega (arith, h.least); greatest = omega (arith, h.greatest, k.greatest); other = omega (arith, h.other, k.other) }
 
-greater_is_extent : (x y : Extent) → IsExtent x → IsExtent y → IsExtent (greater x y)
+pub greater_is_extent : (x y : Extent) → IsExtent x → IsExtent y → IsExtent (greater x y)
 greater_is_extent x y h k =
     let align = max_align x.align y.align (align_of x h) (align_of y k) in
     record { bytes = omega (arith, h.bytes, k.bytes); least = align.least; greatest = align.greatest; other = align.other }

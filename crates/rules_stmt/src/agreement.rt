@@ -27,16 +27,7 @@ pub(crate) fn parameter_place(params: &[Param], name: &Name) -> Option<usize>
 fn same_place(a: Option<usize>, b: Option<usize>) -> bool
     ensures { result ≡ spec.same_place a b }
 {
-    match a {
-        Some(i) => match b {
-            Some(j) => i == j,
-            None => false,
-        },
-        None => match b {
-            Some(_) => false,
-            None => true,
-        },
-    }
+    a == b
 }
 
 /// Whether names of two heads stand for the same place.
@@ -165,28 +156,14 @@ fn count_of(annotation: &Option<Annotation>) -> Option<i64>
 fn is_sentinel(annotation: &Option<Annotation>) -> bool
     ensures { result ≡ spec.is_sentinel annotation.now }
 {
-    match annotation {
-        Some(Annotation::Sentinel) => true,
-        Some(Annotation::Safe) => false,
-        Some(Annotation::Nullterm) => false,
-        Some(Annotation::Count(_)) => false,
-        Some(Annotation::Bound(_, _)) => false,
-        None => false,
-    }
+    matches!(annotation, Some(Annotation::Sentinel))
 }
 
 /// Whether this is `nullterm`.
 fn is_nullterm(annotation: &Option<Annotation>) -> bool
     ensures { result ≡ spec.is_nullterm annotation.now }
 {
-    match annotation {
-        Some(Annotation::Nullterm) => true,
-        Some(Annotation::Safe) => false,
-        Some(Annotation::Sentinel) => false,
-        Some(Annotation::Count(_)) => false,
-        Some(Annotation::Bound(_, _)) => false,
-        None => false,
-    }
+    matches!(annotation, Some(Annotation::Nullterm))
 }
 
 /// Whether this is a count with these terms.

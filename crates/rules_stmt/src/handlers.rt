@@ -47,16 +47,7 @@ fn takes_no_more(rest: &[Option<Shape>]) -> bool
 fn takes_integer(scalar: Scalar, rest: &[Option<Shape>]) -> bool
     ensures { result ≡ spec.takes_int (Some (shaped.Int scalar) ∷ rest.now) }
 {
-    match scalar {
-        Scalar::I32 => takes_no_more(rest),
-        Scalar::Void => false,
-        Scalar::U8 => false,
-        Scalar::I8 => false,
-        Scalar::U16 => false,
-        Scalar::I16 => false,
-        Scalar::U32 => false,
-        Scalar::Pointer { size: _ } => false,
-    }
+    matches!(scalar, Scalar::I32) && takes_no_more(rest)
 }
 
 /// Whether these parameters are one `int`.
@@ -86,11 +77,7 @@ fn takes_int(params: &[Option<Shape>]) -> bool
 fn is_void(returned: Option<&Returned>) -> bool
     ensures { result ≡ spec.is_void (option_copied returned.entry) }
 {
-    match returned {
-        Some(Returned::Nothing) => true,
-        Some(Returned::Value(_)) => false,
-        None => false,
-    }
+    matches!(returned, Some(Returned::Nothing))
 }
 
 /// Whether a function has one parameter `int`, and no result.

@@ -1,0 +1,4 @@
+pub mod Changes
+pub mod Acts
+pub mod Paths
+pub mod Frames

@@ -1,0 +1,57 @@
+//! `Frame`: a live call of a function, and its own part of a step.
+ghost use Rattle.std.specs.Prelude.{◌≡◌, All, IsTrue};
+ghost use Rattle.checked_tree.specs.Numbers.{is_value};
+ghost use Rattle.driver_machine.specs.Acts.{state};
+ghost use Rattle.driver_machine.specs.Frames.{FrameSteps, IsRunnable};
+ghost use Rattle.driver_machine.specs.Paths.{IsReady, todo_at};
+
+use crate::actions::act;
+use crate::position::Position;
+use crate::turn::Turn;
+use arrayvec::ArrayVec;
+use byte_memory::Tested;
+use checked_tree::{CheckedFn, Stop};
+use sd_base::limits::LOCALS;
+
+/// A live call of a function.
+#[derive(Drop)]
+pub struct Frame {
+    /// The number of the function.
+    pub function: u32,
+    /// The values of its slots, each of 32 bits.
+    pub locals: ArrayVec<i64, LOCALS>,
+    pub position: Position,
+}
+
+impl Frame {
+    /// Does the first statement that the frame has still to do, and moves on as the statement says. A call, a kernel call and a return stay first: what becomes of
+    /// them is for the activity. Where the statement stops, nothing changes.
+    pub fn step(
+        &mut self,
+        f: &CheckedFn,
+        memory: &mut Tested,
+        arguments: &mut ArrayVec<i64, LOCALS>,
+    ) -> Result<Turn, Stop>
+        requires words { All (λ z. IsTrue (is_value z)) self.old.locals.items }
+        requires ready { IsReady f.now.body self.old.position.path.items self.old.position.at }
+        requires runnable { IsRunnable f.now.body }
+        ensures step { FrameSteps f.now (state self.old.locals.items memory.old) (todo_at f.now.body self.old.position.path.items self.old.position.at)
+            result (state self.new.locals.items memory.new) (todo_at f.now.body self.new.position.path.items self.new.position.at) arguments.new.items }
+        ensures ready { IsReady f.now.body self.new.position.path.items self.new.position.at }
+        ensures words { All (λ z. IsTrue (is_value z)) self.new.locals.items }
+    {
+        let body = f.body.as_slice();
+        let Some(statement) = self.position.current(body) else {
+            return Err(Stop::Wild);
+        };
+        let turn = act(f, self.locals.as_mut_slice(), memory, arguments, statement)?;
+        match turn {
+            Turn::On => self.position.go_on(body),
+            Turn::Into(holds) => self.position.turn_into(body, holds),
+            Turn::Calls(_) => {}
+            Turn::Asks(_) => {}
+            Turn::Returns(_) => {}
+        }
+        Ok(turn)
+    }
+}

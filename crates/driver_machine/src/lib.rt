@@ -1,0 +1,34 @@
+//! The machine that runs checked functions. What an expression, a check and a statement come to is what the definitions of checked_tree say, over a
+//! tested memory: an access that no granted range contains answers `Wild`.
+#![tactic(auto)]
+
+mod actions;
+mod arguments;
+mod checks;
+mod evaluation;
+mod frame;
+mod memory;
+mod numbers;
+mod operands;
+mod places;
+mod position;
+mod state;
+mod sums;
+mod turn;
+mod unchecked;
+
+pub use actions::{act, set_pointer};
+pub use arguments::collect;
+pub use checks::test_all;
+pub use evaluation::eval;
+pub use frame::Frame;
+pub use memory::{clear, is_clear, load, store};
+pub use operands::{argument, bounded, operand, optional_argument, optional_operand, taken};
+pub use position::{Path, Place, Position};
+pub use state::State;
+pub use sums::sum_value;
+pub use turn::Turn;
+pub use unchecked::peek;
+
+#[cfg(test)]
+mod tests;

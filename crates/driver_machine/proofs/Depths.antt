@@ -1,11 +1,11 @@
 -- A path is no longer than statements stand in one another.
-use Rattle.std.proofs.Common.{◌≡◌, ℕ, zero, suc, ◌+◌, ◌≤◌, ◌<◌, max, Bool, true, false, List, [], ◌∷◌, map, length, Option, Some, None, slice_get, refl, sym, ap, subst, arith}
+use Rattle.std.proofs.Common.{◌≡◌, ℕ, zero, suc, ◌+◌, ◌≤◌, ◌<◌, Bool, true, false, List, [], ◌∷◌, length, Option, Some, None, slice_get, refl, sym, subst, arith}
 use Rattle.checked_tree.specs.declared.statements.CheckedStmt.{CheckedStmt, out-CheckedStmt, map-CheckedStmt}
 use Rattle.checked_tree.specs.declared.statements.CheckedStmt.TheOpen as S
 use Rattle.checked_tree.specs.declared.statements.CheckedStmt.TheFolds.{fold_out-CheckedStmt}
 use Rattle.checked_tree.specs.Step.{part_of}
 use Rattle.driver_machine.specs.declared.position.Place.{Place}
-use Rattle.driver_machine.specs.Paths.{part_at, list_at, IsPath, deepest, nest_level, nest, depth}
+use Rattle.driver_machine.specs.Paths.{part_at, list_at, IsPath, nest_level, nest, depth}
 
 -- a part with statements lies one deeper than its statement
 part_deeper : (y : S.CheckedStmt-F CheckedStmt) (holds : Bool) → 0 < length (part_of y holds) → depth (part_of y holds) + 1 ≤ nest_level (map-CheckedStmt CheckedStmt ℕ nest y)

@@ -1,9 +1,9 @@
 -- A part is entered where it has statements, and passed by where it has none.
-use Rattle.std.proofs.Common.{◌≡◌, ◌≢◌, ◌⊎◌, inl, inr, ℕ, zero, suc, ◌+◌, ◌≤◌, ◌<◌, ◌==◌, Bool, true, false, List, [], ◌∷◌, ◌++◌, length, slice_get, refl, sym, ap, ◌∙◌, subst, arith}
+use Rattle.std.proofs.Common.{◌≡◌, inl, ℕ, ◌≤◌, ◌<◌, ◌==◌, Bool, true, false, List, [], ◌∷◌, ◌++◌, length, slice_get, refl, sym, ap, ◌∙◌, subst, arith}
 use Rattle.std.proofs.lemmas.Bool.{eqb-true}
 use Rattle.checked_tree.specs.declared.statements.CheckedStmt.{CheckedStmt}
 use Rattle.driver_machine.specs.declared.position.Place.{Place}
-use Rattle.driver_machine.specs.Paths.{part_at, list_at, place_behind, todo_at, IsPath, IsSettled, IsReady, Stands, depth, picked_from}
+use Rattle.driver_machine.specs.Paths.{part_at, list_at, place_behind, todo_at, IsPath, IsReady, Stands, depth, picked_from}
 use Rattle.driver_machine.proofs.PathLaws.{list_at-push, path-push}
 use Rattle.driver_machine.proofs.Turns.{entered, passed}
 use Rattle.driver_machine.proofs.Depths.{has_room_for}

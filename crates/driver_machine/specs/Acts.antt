@@ -23,9 +23,17 @@ turn_of (turn.Calls function) arguments = act.Calls function arguments
 turn_of (turn.Asks call) arguments = act.Asks call
 turn_of (turn.Returns result) arguments = act.Returns result
 
+-- a statement behind which control does not simply go on changes nothing
+abbrev pub StaysBy : Turn → State → State → Type 0
+StaysBy turn.On old new = Unit {0}
+StaysBy (turn.Into holds) old new = new ≡ old
+StaysBy (turn.Calls function) old new = new ≡ old
+StaysBy (turn.Asks call) old new = new ≡ old
+StaysBy (turn.Returns result) old new = new ≡ old
+
 -- the state that the definition gives, and its turn; or its stop, with the state as it was
 abbrev pub Acts : Outcome Acted → State → Result Turn Stop → State → List ℤ → Type 0
-Acts outcome old (Ok t) new arguments = outcome ≡ Ok (record { state = new; turn = turn_of t arguments })
+Acts outcome old (Ok t) new arguments = (outcome ≡ Ok (record { state = new; turn = turn_of t arguments })) × StaysBy t old new
 Acts outcome old (Err e) new arguments = (outcome ≡ Err e) × (new ≡ old)
 
 -- the same of a statement behind which control goes on

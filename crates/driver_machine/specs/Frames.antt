@@ -1,6 +1,5 @@
 -- A frame's own part of a step: its first statement is done, and what it has still to do follows the turn.
-use Rattle.std.specs.Prelude.{◌≡◌, ℕ, ◌≤◌, Bool, true, ◌&&◌, nat_le, IsTrue, List, [], ◌∷◌, map, drop, length, ℤ, Result, Ok, Err}
-use Rattle.byte_memory.specs.Tested.{Memory}
+use Rattle.std.specs.Prelude.{◌≡◌, ◌≤◌, Bool, true, ◌&&◌, nat_le, IsTrue, List, [], ◌∷◌, map, drop, length, ℤ, Result, Ok, Err}
 use Rattle.checked_tree.specs.declared.statements.CheckedStmt.{CheckedStmt, out-CheckedStmt}
 use Rattle.checked_tree.specs.declared.statements.CheckedStmt.TheOpen as S
 use Rattle.checked_tree.specs.declared.statements.CheckedStmt.TheFolds.{fold-CheckedStmt}
@@ -12,7 +11,7 @@ use Rattle.checked_tree.specs.Act.{Acted}
 use Rattle.checked_tree.specs.Conditions.{State}
 use Rattle.checked_tree.specs.Outcome.{Outcome}
 use Rattle.driver_machine.specs.declared.turn.Turn.{Turn}
-use Rattle.driver_machine.specs.Acts.{turn_of}
+use Rattle.driver_machine.specs.Acts.{turn_of, StaysBy}
 use Rattle.driver_machine.specs.Paths.{picked_from, depth}
 
 -- ---- statements whose calls have room for their arguments
@@ -55,5 +54,5 @@ after_turn (act.Returns result) todo = todo
 -- what the machine answers of a frame, from the state and the statements to do before and after
 abbrev pub FrameSteps : CheckedFn → State → List CheckedStmt → Result Turn Stop → State → List CheckedStmt → List ℤ → Type 0
 FrameSteps f s todo (Ok t) s' todo' arguments =
-    (first_done f s todo ≡ Ok (record { state = s'; turn = turn_of t arguments })) × (todo' ≡ after_turn (turn_of t arguments) todo)
+    (first_done f s todo ≡ Ok (record { state = s'; turn = turn_of t arguments })) × StaysBy t s s' × (todo' ≡ after_turn (turn_of t arguments) todo)
 FrameSteps f s todo (Err e) s' todo' arguments = (first_done f s todo ≡ Err e) × (s' ≡ s) × (todo' ≡ todo)

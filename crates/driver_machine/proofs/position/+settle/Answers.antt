@@ -1,7 +1,7 @@
-use Rattle.std.proofs.Common.{◌≡◌, ◌<◌, ◌≤◌, List, length, sym, ap, ◌∙◌, subst, arith}
+use Rattle.std.proofs.Common.{◌<◌, List, length, sym, ap, ◌∙◌, subst, arith}
 use Rattle.checked_tree.specs.declared.statements.CheckedStmt.{CheckedStmt}
 use Rattle.driver_machine.specs.declared.position.Place.{Place}
-use Rattle.driver_machine.specs.Paths.{list_at, todo_at}
+use Rattle.driver_machine.specs.Paths.{list_at}
 use Rattle.driver_machine.proofs.PathLaws.{last_of, shorter, part_within, todo_popped}
 use Rattle.driver_machine.proofs.position.+settle.Goals as goal
 

@@ -1,5 +1,4 @@
-use Rattle.std.proofs.Common.{List, Bool, ap, ◌∙◌, arith}
-use Rattle.checked_tree.specs.declared.statements.CheckedStmt.{CheckedStmt}
+use Rattle.std.proofs.Common.{List, ap, ◌∙◌, arith}
 use Rattle.driver_machine.specs.declared.position.Place.{Place}
 use Rattle.driver_machine.specs.Paths.{list_at}
 use Rattle.driver_machine.proofs.Entering.{room, todo_passed, todo_entered, ready_entered}

@@ -5,3 +5,4 @@ pub mod Turns
 pub mod Depths
 pub mod Entering
 pub mod Roomy
+pub mod Examples

@@ -1,5 +1,5 @@
 -- What the machine answers of one statement, beside what the definition says.
-use Rattle.std.specs.Prelude.{◌≡◌, nat_le, Bool, true, List, length, ℤ, Result, Ok, Err}
+use Rattle.std.specs.Prelude.{◌≡◌, nat_le, Bool, true, IsTrue, List, length, ℤ, Some, Result, Ok, Err}
 use Rattle.byte_memory.specs.Tested.{Memory}
 use Rattle.checked_tree.specs.declared.statements.CheckedStmt.{CheckedStmt}
 use Rattle.checked_tree.specs.declared.statements.CheckedStmt.TheOpen as S
@@ -7,6 +7,7 @@ use Rattle.checked_tree.specs.declared.stops.Stop.{Stop}
 use Rattle.checked_tree.specs.Act as act
 use Rattle.checked_tree.specs.Act.{Acted}
 use Rattle.checked_tree.specs.Conditions.{State}
+use Rattle.checked_tree.specs.Numbers.{is_value}
 use Rattle.checked_tree.specs.Outcome.{Outcome}
 use Rattle.driver_machine.specs.declared.turn.Turn.{Turn}
 use Rattle.driver_machine.specs.declared.turn.Turn.TheVariants as turn
@@ -35,6 +36,11 @@ StaysBy (turn.Returns result) old new = new ≡ old
 abbrev pub Acts : Outcome Acted → State → Result Turn Stop → State → List ℤ → Type 0
 Acts outcome old (Ok t) new arguments = (outcome ≡ Ok (record { state = new; turn = turn_of t arguments })) × StaysBy t old new
 Acts outcome old (Err e) new arguments = (outcome ≡ Err e) × (new ≡ old)
+
+-- a result that is handed back fits 32 bits, as each value does
+abbrev pub HasValue : Turn → Type 0
+HasValue (turn.Returns (Some v)) = IsTrue (is_value v)
+HasValue _ = Unit {0}
 
 -- the same of a statement behind which control goes on
 abbrev pub GoesOn : Outcome Acted → State → Result (Unit {0}) Stop → State → Type 0

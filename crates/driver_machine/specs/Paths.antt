@@ -41,9 +41,13 @@ abbrev pub IsPath : List CheckedStmt → List Place → Type 0
 IsPath list [] = Unit {0}
 IsPath list (p ∷ ps) = (0 < length (part_at (slice_get list p.at) p.holds)) × IsPath (part_at (slice_get list p.at) p.holds) ps
 
+-- a statement stands at the place
+abbrev pub Stands : List CheckedStmt → List Place → ℕ → Type 0
+Stands list ps at = at < length (list_at list ps)
+
 -- a statement stands at the place, or all is done
 abbrev pub IsSettled : List CheckedStmt → List Place → ℕ → Type 0
-IsSettled list ps at = (at < length (list_at list ps)) ⊎ ((ps ≡ []) × (length list ≤ at))
+IsSettled list ps at = Stands list ps at ⊎ ((ps ≡ []) × (length list ≤ at))
 
 -- ---- how deep statements stand in one another
 abbrev pub deepest : List ℕ → ℕ
@@ -65,10 +69,6 @@ depth list = deepest (map nest list)
 -- a frame that stands so has each part of its path entered, and stands at a statement or is done
 abbrev pub IsReady : List CheckedStmt → List Place → ℕ → Type 0
 IsReady body ps at = IsPath body ps × IsSettled body ps at
-
--- a frame stands at a statement
-abbrev pub Stands : List CheckedStmt → List Place → ℕ → Type 0
-Stands body ps at = at < length (list_at body ps)
 
 -- what is to do after the test of the first statement came out so
 abbrev pub picked_from : List CheckedStmt → Bool → List CheckedStmt

@@ -1,10 +1,10 @@
 //! What one statement does to its frame's locals and to memory, and where control turns then.
-ghost use Rattle.std.specs.Prelude.{◌≡◌, [], All, IsTrue, pos, slice_index_or, slice_set};
+ghost use Rattle.std.specs.Prelude.{◌≡◌, [], All, IfOk, IsTrue, pos, slice_index_or, slice_set};
 ghost use Rattle.checked_tree.specs.Act as spec;
 ghost use Rattle.checked_tree.specs.Numbers.{is_value};
 ghost use Rattle.checked_tree.specs.declared.statements.CheckedStmt.{out-CheckedStmt};
 ghost use Rattle.checked_tree.specs.declared.statements.CheckedStmt.TheOpen as forms;
-ghost use Rattle.driver_machine.specs.Acts.{Acts, GoesOn, has_room, state};
+ghost use Rattle.driver_machine.specs.Acts.{Acts, GoesOn, HasValue, has_room, state};
 
 use crate::arguments::collect;
 use crate::checks::test_all;
@@ -213,6 +213,7 @@ pub fn act(
         (state locals.old memory.old) result (state locals.new memory.new) arguments.new.items }
     ensures words { All (λ z. IsTrue (is_value z)) locals.new }
     ensures arguments { All (λ z. IsTrue (is_value z)) arguments.old.items → All (λ z. IsTrue (is_value z)) arguments.new.items }
+    ensures range { IfOk result HasValue }
 {
     match statement {
         CheckedStmt::Empty { line: _ } => Ok(Turn::On),

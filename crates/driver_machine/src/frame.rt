@@ -1,8 +1,8 @@
 //! `Frame`: a live call of a function, and its own part of a step.
-ghost use Rattle.std.specs.Prelude.{◌≡◌, ◌≤◌, ◌-◌, ◌++◌, All, IsTrue, length, pos, replicate};
+ghost use Rattle.std.specs.Prelude.{◌≡◌, ◌≤◌, ◌-◌, ◌++◌, All, IfOk, IsTrue, length, pos, replicate};
 ghost use Rattle.checked_tree.specs.Step.{first_locals};
 ghost use Rattle.checked_tree.specs.Numbers.{is_value};
-ghost use Rattle.driver_machine.specs.Acts.{state};
+ghost use Rattle.driver_machine.specs.Acts.{HasValue, state};
 ghost use Rattle.driver_machine.specs.Frames.{FrameSteps, IsRunnable};
 ghost use Rattle.driver_machine.specs.Paths.{IsReady, todo_at};
 
@@ -77,6 +77,8 @@ impl Frame {
         ensures function { self.new.function ≡ self.old.function }
         ensures ready { IsReady f.now.body self.new.position.path.items self.new.position.at }
         ensures words { All (λ z. IsTrue (is_value z)) self.new.locals.items }
+        ensures arguments { All (λ z. IsTrue (is_value z)) arguments.old.items → All (λ z. IsTrue (is_value z)) arguments.new.items }
+        ensures range { IfOk result HasValue }
     {
         let body = f.body.as_slice();
         let Some(statement) = self.position.current(body) else {

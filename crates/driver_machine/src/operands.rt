@@ -1,5 +1,5 @@
 //! What statements evaluate: pointers with their bounds, and numbers that are handed over.
-ghost use Rattle.std.specs.Prelude.{◌≡◌, [], ℤ, List, map, option_copied, IfOk, IsTrue};
+ghost use Rattle.std.specs.Prelude.{◌≡◌, [], ℤ, List, map, option_copied, IfOk, IfSome, IsTrue};
 ghost use Rattle.checked_tree.specs.Operands as spec;
 ghost use Rattle.checked_tree.specs.Numbers.{is_value};
 
@@ -100,7 +100,8 @@ pub fn optional_argument(
     f: &CheckedFn,
     value: &Option<Argument>,
 ) -> Result<Option<i64>, Stop>
-    ensures { result ≡ spec.optional_argument [] f.now s.now value.now }
+    ensures value { result ≡ spec.optional_argument [] f.now s.now value.now }
+    ensures range { IfOk result (λ v. IfSome v (λ z. IsTrue (is_value z))) }
 {
     match value {
         None => Ok(None),

@@ -6,7 +6,12 @@ use Rattle.sd_base.proofs.Counting.{count_by-cons, count_by-filter_le, count_bel
 use Rattle.sd_base.proofs.Removal.{list_any-wider, list_any-filter_none}
 use Rattle.claim_table.specs.declared.claim.Claim.{Claim}
 use Rattle.claim_table.specs.Ordered.{is_owned, is_claim, is_not_claim, has_number, insert_claim, FewOfEach}
+use Rattle.claim_table.specs.ClaimCalls.{is_taken}
 use Rattle.claim_table.proofs.InOrder.{list_any-insert, count_by-insert}
+
+-- a line that is not taken has room for one more holder
+pub free_line : (share owner line : ℕ) (lines : List (Claim ℕ)) → is_taken share owner line lines ≡ false → count_by (λ c. eqb c.number line) lines < share
+free_line share owner line lines h = grind (arith, nat_tests)
 
 module _ {D : Type 0} where
   -- at most b of each of n numbers, so at most n * b claims
@@ -40,13 +45,13 @@ module _ {D : Type 0} where
     each = λ k. one_more f b x claims k room (few.each k);
   }
 
-  none_counts : (p : Claim D → Bool) (claims : List (Claim D)) → list_any p claims ≡ false → count_by p claims ≡ 0
-  none_counts p [] h = refl
-  none_counts p (c ∷ claims) h = grind (arith, count_by-cons p c claims, none_counts p claims)
+  length-insert : (x : Claim D) (claims : List (Claim D)) → length (insert_claim x claims) ≡ length claims + 1
+  length-insert x [] = refl
+  length-insert x (y ∷ ys) = grind (arith, length-insert x ys)
 
-  -- a number that nobody has claimed has room for one
-  pub free_number : (number : ℕ) (claims : List (Claim D)) → list_any (has_number number) claims ≡ false → count_by (λ c. eqb c.number number) claims < 1
-  free_number number claims h = omega (arith, none_counts (has_number number) claims h)
+  -- there is room for a claim of a number that has not as many as it may
+  pub few_room : (f : Claim D → ℕ) (n b : ℕ) (x : Claim D) (claims : List (Claim D)) → f x < n → count_by (λ c. eqb (f c) (f x)) claims < b → FewOfEach f n b claims → length claims < n * b
+  few_room f n b x claims below room few = omega (arith, length-insert x claims, few_length f n b (insert_claim x claims) (few_insert f n b x claims below room few))
 
   own_room_more : (owner number b : ℕ) (c : Claim D) (claims : List (Claim D)) → is_claim owner number c ≡ false → is_owned owner c ≡ true →
       count_by (is_owned owner) (filter (is_not_claim owner number) claims) < b - 1 → count_by (is_owned owner) claims + 1 ≤ b →

@@ -11,7 +11,7 @@ use Rattle.sd_base.proofs.Rows.{filter_map-filter}
 use Rattle.claim_table.specs.declared.claim.Claim.{Claim}
 use Rattle.claim_table.specs.Ordered.{is_not_owned, is_claim, insert_claim, in_order}
 use Rattle.claim_table.specs.ClaimRows.{ClaimRows, claim, is_range_claim}
-use Rattle.claim_table.specs.ClaimCalls.{with_line, without_line, with_ports, without_ports, with_device, without_device, with_param, without_param, without_owner}
+use Rattle.claim_table.specs.ClaimCalls.{with_line, without_line, with_ports, without_ports, with_device, without_device, with_param, without_param}
 use Rattle.claim_table.specs.ClaimPart.{line_row_of, line_row, ports_row_of, ports_row, device_row_of, device_row, param_row_of, param_row, HoldsClaims}
 use Rattle.claim_table.proofs.InOrder.{in_order-filter}
 use Rattle.claim_table.proofs.Owned.{line_is, line_none, ports_is, ports_none, device_is, device_none, param_is, param_none}
@@ -115,46 +115,3 @@ param_comes t live owner k value s h =
     }
 
 -- an owner is left out
-
-line_owner_of : (owner by : ℕ) (u : Update) (c : Claim ℕ) → line_row_of by u ≡ Some c → c.owner ≡ by
-line_owner_of owner by (Line (pos j) handler) c h = cc
-line_owner_of owner by (Line (negsuc j) handler) c h = cc
-line_owner_of owner by _ c h = cc
-
-ports_owner_of : (owner by : ℕ) (u : Update) (c : Claim ℕ) → ports_row_of by u ≡ Some c → c.owner ≡ by
-ports_owner_of owner by (Ports (pos i) (pos j)) c h = cc
-ports_owner_of owner by (Ports (pos i) (negsuc j)) c h = cc
-ports_owner_of owner by (Ports (negsuc i) m) c h = cc
-ports_owner_of owner by _ c h = cc
-
-device_owner_of : (owner by : ℕ) (u : Update) (c : Claim (Unit {0})) → device_row_of by u ≡ Some c → c.owner ≡ by
-device_owner_of owner by (Device (pos j)) c h = cc
-device_owner_of owner by (Device (negsuc j)) c h = cc
-device_owner_of owner by _ c h = cc
-
-param_owner_of : (owner by : ℕ) (u : Update) (c : Claim ℤ) → param_row_of by u ≡ Some c → c.owner ≡ by
-param_owner_of owner by (Param (pos j) value) c h = cc
-param_owner_of owner by (Param (negsuc j) value) c h = cc
-param_owner_of owner by _ c h = cc
-
-not_owner : {D : Type 0} (owner : ℕ) (e : Entry) (c : Claim D) → c.owner ≡ e.owner → not (is_owner owner e) ≡ is_not_owned owner c
-not_owner owner e c h = ap (λ n. not (eqb n owner)) (sym h)
-
-left_out : {D : Type 0} (row : Entry → Option (Claim D)) → ((e : Entry) (c : Claim D) → row e ≡ Some c → c.owner ≡ e.owner) → (owner : ℕ) (live : List Entry) (claims : List (Claim D)) →
-    claims ≡ in_order (filter_map row live) → filter (is_not_owned owner) claims ≡ in_order (filter_map row (Without live owner))
-left_out row by owner live claims is =
-    ap (filter (is_not_owned owner)) is ∙ sym (in_order-filter (is_not_owned owner) (filter_map row live))
-    ∙ ap in_order (sym (filter_map-filter row (λ e. not (is_owner owner e)) (is_not_owned owner) (λ e c h. not_owner owner e c (by e c h)) live))
-
--- the claims without an owner's are those of the entries without the owner's
-pub owner_goes : (t : ClaimRows) (live : List Entry) (owner : ℕ) → HoldsClaims t live → HoldsClaims (without_owner t owner) (Without live owner)
-owner_goes t live owner h = record {
-  lines = left_out line_row (λ e c k. line_owner_of owner e.owner e.update c k) owner live t.lines h.lines;
-  ports = left_out ports_row (λ e c k. ports_owner_of owner e.owner e.update c k) owner live t.ports h.ports;
-  devices = left_out device_row (λ e c k. device_owner_of owner e.owner e.update c k) owner live t.devices h.devices;
-  params = left_out param_row (λ e c k. param_owner_of owner e.owner e.update c k) owner live t.params h.params;
-}
-
--- and so for histories
-pub history_goes : (t : ClaimRows) (h : History) (owner : ℕ) → HoldsClaims t (live_of h) → HoldsClaims (without_owner t owner) (live_of (Without h owner))
-history_goes t h owner holds = subst (HoldsClaims (without_owner t owner)) (sym (live_of-Without h owner)) (owner_goes t (live_of h) owner holds)

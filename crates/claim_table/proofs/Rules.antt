@@ -6,7 +6,7 @@ use Rattle.sd_base.specs.declared.history.Update.TheVariants.{Line, FreeLine, Po
 use Rattle.sd_base.specs.History.{Entry, OfPorts, OfDevices, OfParams, line_key, ports_key, device_key, param_key, has_key, is_of, is_of_kind}
 use Rattle.sd_base.specs.Allowed.{is_range, meets, refusal_on, is_astray}
 use Rattle.sd_base.specs.Sound.{IsSound}
-use Rattle.sd_base.proofs.Rows.{list_any-filter_map}
+use Rattle.sd_base.proofs.Rows.{list_any-filter_map, count_by-filter_map}
 use Rattle.sd_base.proofs.Removal.{list_any-wider}
 use Rattle.claim_table.specs.Ordered.{has_number, is_owned, is_claim}
 use Rattle.claim_table.specs.ClaimRows.{ClaimRows, range_meets, is_range_claim}
@@ -18,10 +18,10 @@ use Rattle.claim_table.proofs.Within.{any_rows, count_rows}
 
 -- what the table has is what is live
 
-line_there : (t : ClaimRows) (live : List Entry) (k : ℕ) → HoldsClaims t live → list_any (has_number k) t.lines ≡ list_any (has_key (line_key (pos k))) live
-line_there t live k h =
-    ap (list_any (has_number k)) h.lines ∙ list_any-in_order (has_number k) (filter_map line_row live)
-    ∙ list_any-filter_map line_row (has_key (line_key (pos k))) (has_number k) (line_has k) live
+line_count : (t : ClaimRows) (live : List Entry) (k : ℕ) → HoldsClaims t live → count_by (has_number k) t.lines ≡ count_by (has_key (line_key (pos k))) live
+line_count t live k h =
+    ap (count_by (has_number k)) h.lines ∙ count_by-in_order (has_number k) (filter_map line_row live)
+    ∙ count_by-filter_map line_row (has_key (line_key (pos k))) (has_number k) (line_has k) live
 
 line_own : (t : ClaimRows) (live : List Entry) (owner k : ℕ) → HoldsClaims t live → list_any (is_claim owner k) t.lines ≡ list_any (is_of owner (line_key (pos k))) live
 line_own t live owner k h =
@@ -79,8 +79,8 @@ held_same a b same = ap (λ x. refused_as (if_held x)) same
 
 -- the rules
 
-pub line_rule : (t : ClaimRows) (live : List Entry) (clock owner : ℕ) (line : ℤ) (handler : ℕ) → HoldsClaims t live → refused_as (line_answer t line) ≡ refusal_on live clock owner (Line line handler)
-line_rule t live clock owner (pos k) handler h = grind (arith, line_there t live k h)
+pub line_rule : (t : ClaimRows) (live : List Entry) (clock owner : ℕ) (line : ℤ) (handler : ℕ) → HoldsClaims t live → refused_as (line_answer t owner line) ≡ refusal_on t.share live clock owner (Line line handler)
+line_rule t live clock owner (pos k) handler h = grind (arith, line_own t live owner k h, line_count t live k h)
 line_rule t live clock owner (negsuc k) handler h = refl
 
 held_line : (t : ClaimRows) (live : List Entry) (owner : ℕ) (line : ℤ) → IsSound live → HoldsClaims t live → holds_line t owner line ≡ list_any (is_of owner (line_key line)) live
@@ -92,10 +92,10 @@ held_line t live owner (pos k) s h =
 held_line t live owner (negsuc k) s h = sym (none_out (is_of owner (line_key (negsuc k))) (line_astray owner (negsuc k) refl) live s)
 
 pub free_line_rule : (t : ClaimRows) (live : List Entry) (clock owner : ℕ) (line : ℤ) → IsSound live → HoldsClaims t live →
-    refused_as (if_held (holds_line t owner line)) ≡ refusal_on live clock owner (FreeLine line)
+    refused_as (if_held (holds_line t owner line)) ≡ refusal_on t.share live clock owner (FreeLine line)
 free_line_rule t live clock owner line s h = grind (arith, held_line t live owner line s h)
 
-pub ports_rule : (t : ClaimRows) (live : List Entry) (clock owner : ℕ) (base n : ℤ) → IsSound live → HoldsClaims t live → refused_as (ports_answer t owner base n) ≡ refusal_on live clock owner (Ports base n)
+pub ports_rule : (t : ClaimRows) (live : List Entry) (clock owner : ℕ) (base n : ℤ) → IsSound live → HoldsClaims t live → refused_as (ports_answer t owner base n) ≡ refusal_on t.share live clock owner (Ports base n)
 ports_rule t live clock owner (pos b) (pos n) s h = grind (arith, ports_there t live b n s h, ports_count t live owner s h)
 ports_rule t live clock owner (pos b) (negsuc n) s h = grind (arith, nat_tests)
 ports_rule t live clock owner (negsuc b) n s h = refl
@@ -113,10 +113,10 @@ held_ports t live owner (pos b) (negsuc n) s h =
 held_ports t live owner (negsuc b) n s h = sym (none_out (is_of owner (ports_key (negsuc b) n)) (ports_astray owner (negsuc b) n refl) live s)
 
 pub drop_ports_rule : (t : ClaimRows) (live : List Entry) (clock owner : ℕ) (base n : ℤ) → IsSound live → HoldsClaims t live →
-    refused_as (if_held (holds_ports t owner base n)) ≡ refusal_on live clock owner (DropPorts base n)
+    refused_as (if_held (holds_ports t owner base n)) ≡ refusal_on t.share live clock owner (DropPorts base n)
 drop_ports_rule t live clock owner base n s h = grind (arith, held_ports t live owner base n s h)
 
-pub device_rule : (t : ClaimRows) (live : List Entry) (clock owner : ℕ) (id : ℤ) → IsSound live → HoldsClaims t live → refused_as (device_answer t owner id) ≡ refusal_on live clock owner (Device id)
+pub device_rule : (t : ClaimRows) (live : List Entry) (clock owner : ℕ) (id : ℤ) → IsSound live → HoldsClaims t live → refused_as (device_answer t owner id) ≡ refusal_on t.share live clock owner (Device id)
 device_rule t live clock owner (pos k) s h = grind (arith, device_there t live k h, device_count t live owner s h)
 device_rule t live clock owner (negsuc k) s h = refl
 
@@ -129,11 +129,11 @@ held_device t live owner (pos k) s h =
 held_device t live owner (negsuc k) s h = sym (none_out (is_of owner (device_key (negsuc k))) (device_astray owner (negsuc k) refl) live s)
 
 pub del_device_rule : (t : ClaimRows) (live : List Entry) (clock owner : ℕ) (id : ℤ) → IsSound live → HoldsClaims t live →
-    refused_as (if_held (holds_device t owner id)) ≡ refusal_on live clock owner (DelDevice id)
+    refused_as (if_held (holds_device t owner id)) ≡ refusal_on t.share live clock owner (DelDevice id)
 del_device_rule t live clock owner id s h = grind (arith, held_device t live owner id s h)
 
 pub param_rule : (t : ClaimRows) (live : List Entry) (clock owner : ℕ) (key value : ℤ) → IsSound live → HoldsClaims t live →
-    refused_as (param_answer t owner key) ≡ refusal_on live clock owner (Param key value)
+    refused_as (param_answer t owner key) ≡ refusal_on t.share live clock owner (Param key value)
 param_rule t live clock owner (pos k) value s h = grind (arith, param_own t live owner k h, param_count t live owner s h)
 param_rule t live clock owner (negsuc k) value s h = refl
 
@@ -146,5 +146,5 @@ held_param t live owner (pos k) s h =
 held_param t live owner (negsuc k) s h = sym (none_out (is_of owner (param_key (negsuc k))) (param_astray owner (negsuc k) refl) live s)
 
 pub clear_param_rule : (t : ClaimRows) (live : List Entry) (clock owner : ℕ) (key : ℤ) → IsSound live → HoldsClaims t live →
-    refused_as (if_held (holds_param t owner key)) ≡ refusal_on live clock owner (ClearParam key)
+    refused_as (if_held (holds_param t owner key)) ≡ refusal_on t.share live clock owner (ClearParam key)
 clear_param_rule t live clock owner key s h = grind (arith, held_param t live owner key s h)

@@ -9,7 +9,7 @@ use Rattle.sd_base.specs.declared.history.Update.TheVariants.{Line, FreeLine, Po
 use Rattle.sd_base.specs.Selection.{find_last, without_first}
 use Rattle.sd_base.specs.History.{Entry, History, entry, line_key, ports_key, device_key, param_key, is_of, after_entry, live_of, clock_of}
 use Rattle.sd_base.specs.Allowed.{is_range, refusal, is_astray}
-use Rattle.sd_base.specs.Part.{Serves, Loses}
+use Rattle.sd_base.specs.Part.{ServesAt, Loses}
 use Rattle.sd_base.specs.Sound.{IsSound}
 use Rattle.sd_base.proofs.Counting.{reverse-cons}
 use Rattle.sd_base.proofs.SoundLive.{lawful_sound}
@@ -34,23 +34,23 @@ accepted (Err Full) h = cc
 
 -- an answer by the history's rule, and the part of the history with the update where it is accepted
 serves_by : (old new : ClaimRows) (owner : ℕ) (u : Update) (answer : Answer) →
-    ((h : History) → IsSound (live_of h) → HoldsClaims old (live_of h) → refused_as answer ≡ refusal h owner u) →
+    ((h : History) → IsSound (live_of h) → HoldsClaims old (live_of h) → refused_as answer ≡ refusal old.share h owner u) →
     (answer ≡ Ok tt → (live : List Entry) → IsSound live → HoldsClaims old live → HoldsClaims new (after_entry (entry owner u) live)) →
-    Serves HoldsClaims old owner u (refused_as answer) new
+    ServesAt old.share HoldsClaims old owner u (refused_as answer) new
 serves_by old new owner u answer rule kept h lawful proper holds =
-    let sound : IsSound (live_of h) = lawful_sound h proper lawful in
+    let sound : IsSound (live_of h) = lawful_sound old.share h proper lawful in
     (rule h sound holds, λ ok. kept (accepted answer ok) (live_of h) sound holds)
 
 -- what is accepted has changed the table as it should
 done : (answer : Answer) (P : Type 0) → OnOk answer P → answer ≡ Ok tt → P
 done answer P h ok = subst (λ a. OnOk a P) ok h
 
-line_in : (t : ClaimRows) (owner : ℕ) (line : ℤ) (handler : ℕ) → line_answer t line ≡ Ok tt → (live : List Entry) → HoldsClaims t live → HoldsClaims (with_line t owner line handler) (after_entry (entry owner (Line line handler)) live)
+line_in : (t : ClaimRows) (owner : ℕ) (line : ℤ) (handler : ℕ) → line_answer t owner line ≡ Ok tt → (live : List Entry) → HoldsClaims t live → HoldsClaims (with_line t owner line handler) (after_entry (entry owner (Line line handler)) live)
 line_in t owner (pos k) handler ok live h = line_comes t live owner k handler h
 line_in t owner (negsuc k) handler ok live h = cc
 
-pub line_serves : (old new : ClaimRows) (owner : ℕ) (line : ℤ) (handler : ℕ) (answer : Answer) → answer ≡ line_answer old line → OnOk answer (new ≡ with_line old owner line handler) →
-    Serves HoldsClaims old owner (Line line handler) (refused_as answer) new
+pub line_serves : (old new : ClaimRows) (owner : ℕ) (line : ℤ) (handler : ℕ) (answer : Answer) → answer ≡ line_answer old owner line → OnOk answer (new ≡ with_line old owner line handler) →
+    ServesAt old.share HoldsClaims old owner (Line line handler) (refused_as answer) new
 line_serves old new owner line handler answer is after =
     serves_by old new owner (Line line handler) answer
     (λ h s holds. ap refused_as is ∙ line_rule old (live_of h) (clock_of h) owner line handler holds)
@@ -66,7 +66,7 @@ was_held true h = refl
 was_held false h = cc
 
 pub free_line_serves : (old new : ClaimRows) (owner : ℕ) (line : ℤ) (answer : Answer) → answer ≡ if_held (holds_line old owner line) → OnOk answer (new ≡ without_line old owner line) →
-    Serves HoldsClaims old owner (FreeLine line) (refused_as answer) new
+    ServesAt old.share HoldsClaims old owner (FreeLine line) (refused_as answer) new
 free_line_serves old new owner line answer is after =
     serves_by old new owner (FreeLine line) answer
     (λ h s holds. ap refused_as is ∙ free_line_rule old (live_of h) (clock_of h) owner line s holds)
@@ -95,7 +95,7 @@ ports_in t owner (pos b) (negsuc n) ok live h = absurd (not_ports b n t owner ok
 ports_in t owner (negsuc b) n ok live h = cc
 
 pub ports_serve : (old new : ClaimRows) (owner : ℕ) (base n : ℤ) (answer : Answer) → answer ≡ ports_answer old owner base n → OnOk answer (new ≡ with_ports old owner base n) →
-    Serves HoldsClaims old owner (Ports base n) (refused_as answer) new
+    ServesAt old.share HoldsClaims old owner (Ports base n) (refused_as answer) new
 ports_serve old new owner base n answer is after =
     serves_by old new owner (Ports base n) answer
     (λ h s holds. ap refused_as is ∙ ports_rule old (live_of h) (clock_of h) owner base n s holds)
@@ -109,7 +109,7 @@ ports_out t owner (pos b) (negsuc n) has live s h = absurd (not_range b n t owne
 ports_out t owner (negsuc b) n has live s h = cc
 
 pub drop_ports_serves : (old new : ClaimRows) (owner : ℕ) (base n : ℤ) (answer : Answer) → answer ≡ if_held (holds_ports old owner base n) → OnOk answer (new ≡ without_ports old owner base n) →
-    Serves HoldsClaims old owner (DropPorts base n) (refused_as answer) new
+    ServesAt old.share HoldsClaims old owner (DropPorts base n) (refused_as answer) new
 drop_ports_serves old new owner base n answer is after =
     serves_by old new owner (DropPorts base n) answer
     (λ h s holds. ap refused_as is ∙ drop_ports_rule old (live_of h) (clock_of h) owner base n s holds)
@@ -125,7 +125,7 @@ device_in t owner (pos k) ok live h = device_comes t live owner k h
 device_in t owner (negsuc k) ok live h = cc
 
 pub device_serves : (old new : ClaimRows) (owner : ℕ) (id : ℤ) (answer : Answer) → answer ≡ device_answer old owner id → OnOk answer (new ≡ with_device old owner id) →
-    Serves HoldsClaims old owner (Device id) (refused_as answer) new
+    ServesAt old.share HoldsClaims old owner (Device id) (refused_as answer) new
 device_serves old new owner id answer is after =
     serves_by old new owner (Device id) answer
     (λ h s holds. ap refused_as is ∙ device_rule old (live_of h) (clock_of h) owner id s holds)
@@ -137,7 +137,7 @@ device_out t owner (pos k) has live s h = device_goes t live owner k s h
 device_out t owner (negsuc k) has live s h = cc
 
 pub del_device_serves : (old new : ClaimRows) (owner : ℕ) (id : ℤ) (answer : Answer) → answer ≡ if_held (holds_device old owner id) → OnOk answer (new ≡ without_device old owner id) →
-    Serves HoldsClaims old owner (DelDevice id) (refused_as answer) new
+    ServesAt old.share HoldsClaims old owner (DelDevice id) (refused_as answer) new
 del_device_serves old new owner id answer is after =
     serves_by old new owner (DelDevice id) answer
     (λ h s holds. ap refused_as is ∙ del_device_rule old (live_of h) (clock_of h) owner id s holds)
@@ -152,7 +152,7 @@ param_in t owner (pos k) value ok live s h = param_comes t live owner k value s 
 param_in t owner (negsuc k) value ok live s h = cc
 
 pub param_serves : (old new : ClaimRows) (owner : ℕ) (key value : ℤ) (answer : Answer) → answer ≡ param_answer old owner key → OnOk answer (new ≡ with_param old owner key value) →
-    Serves HoldsClaims old owner (Param key value) (refused_as answer) new
+    ServesAt old.share HoldsClaims old owner (Param key value) (refused_as answer) new
 param_serves old new owner key value answer is after =
     serves_by old new owner (Param key value) answer
     (λ h s holds. ap refused_as is ∙ param_rule old (live_of h) (clock_of h) owner key value s holds)
@@ -164,7 +164,7 @@ param_out t owner (pos k) has live s h = param_goes t live owner k s h
 param_out t owner (negsuc k) has live s h = cc
 
 pub clear_param_serves : (old new : ClaimRows) (owner : ℕ) (key : ℤ) (answer : Answer) → answer ≡ if_held (holds_param old owner key) → OnOk answer (new ≡ without_param old owner key) →
-    Serves HoldsClaims old owner (ClearParam key) (refused_as answer) new
+    ServesAt old.share HoldsClaims old owner (ClearParam key) (refused_as answer) new
 clear_param_serves old new owner key answer is after =
     serves_by old new owner (ClearParam key) answer
     (λ h s holds. ap refused_as is ∙ clear_param_rule old (live_of h) (clock_of h) owner key s holds)
@@ -188,7 +188,7 @@ value_read t live (negsuc k) s h =
     sym (ap (λ vs. slice_get vs 0) (none_rows (λ (e : Entry). value_by (negsuc k) e.update) is_astray (value_astray (negsuc k) refl) live s.in_range))
 
 pub value_reads : (t : ClaimRows) (key : ℤ) (answer : Option ℤ) → answer ≡ param_value t key → OfEachHistory t (λ h. answer ≡ slice_get (values_of h key) 0)
-value_reads t key answer is h lawful proper holds = is ∙ value_read t (live_of h) key (lawful_sound h proper lawful) holds
+value_reads t key answer is h lawful proper holds = is ∙ value_read t (live_of h) key (lawful_sound t.share h proper lawful) holds
 
 map-append : {X Y : Type 0} (f : X → Y) (xs ys : List X) → map f (xs ++ ys) ≡ map f xs ++ map f ys
 map-append f [] ys = refl
@@ -224,10 +224,10 @@ holder_read t live (negsuc k) i s h =
     sym (ap (λ ls. slice_get (reverse ls) i) (none_rows (λ (e : Entry). holder_by (negsuc k) e.owner e.update) is_astray (holder_astray (negsuc k) refl) live s.in_range))
 
 pub holder_reads : (t : ClaimRows) (line : ℤ) (i : ℕ) (answer : Option Holder) → answer ≡ line_holder t line i → OfEachHistory t (λ h. answer ≡ slice_get (holders_of h line) i)
-holder_reads t line i answer is h lawful proper holds = is ∙ holder_read t (live_of h) line i (lawful_sound h proper lawful) holds
+holder_reads t line i answer is h lawful proper holds = is ∙ holder_read t (live_of h) line i (lawful_sound t.share h proper lawful) holds
 
 pub port_reads : (t : ClaimRows) (owner : ℕ) (port : ℤ) (answer : Bool) → answer ≡ list_any (covers owner port) t.ports → OfEachHistory t (λ h. answer ≡ holds_port h owner port)
 port_reads t owner port answer is h lawful proper holds =
-    let sound : IsSound (live_of h) = lawful_sound h proper lawful in
+    let sound : IsSound (live_of h) = lawful_sound t.share h proper lawful in
     is ∙ ap (list_any (covers owner port)) holds.ports ∙ list_any-in_order (covers owner port) (filter_map ports_row (live_of h))
     ∙ any_rows ports_row (λ (e : Entry). eqb e.owner owner && port_in port e.update) is_astray (covers owner port) (port_covered owner port) (live_of h) sound.in_range

@@ -1,5 +1,5 @@
 -- What each call of the table answers by what the table contains, and what the table contains after it.
-use Rattle.std.specs.Prelude.{ℕ, Bool, cond, ◌&&◌, ltb, ℤ, nat_abs, slice_get, Option, Some, None, Result, Ok, Err}
+use Rattle.std.specs.Prelude.{ℕ, Bool, cond, not, ◌&&◌, ◌||◌, ltb, List, ℤ, nat_abs, slice_get, Option, Some, None, Result, Ok, Err}
 use Rattle.std.specs.List.{list_any, filter, count_by}
 use Rattle.sd_base.specs.Selection.{is_below, find_last}
 use Rattle.sd_base.specs.Allowed.{is_range}
@@ -7,7 +7,7 @@ use Rattle.claim_table.specs.declared.claim.Claim.{Claim}
 use Rattle.claim_table.specs.declared.claims.ClaimRefusal.{ClaimRefusal}
 use Rattle.claim_table.specs.declared.claims.ClaimRefusal.TheVariants.{Busy, Bad, Full}
 use Rattle.claim_table.specs.declared.claims.Holder.{Holder}
-use Rattle.claim_table.specs.Ordered.{has_number, is_owned, is_not_owned, is_claim, is_not_claim, insert_claim}
+use Rattle.claim_table.specs.Ordered.{has_number, is_owned, is_claim, is_not_claim, insert_claim}
 use Rattle.claim_table.specs.ClaimRows.{ClaimRows, claim, range_meets, is_range_claim, is_not_range_claim}
 
 abbrev pub Answer : Type 0
@@ -29,8 +29,12 @@ if_room count = cond (ltb count 32) (Ok tt) (Err Full)
 abbrev pub if_held : Bool → Answer
 if_held held = cond held (Ok tt) (Err Bad)
 
-abbrev pub line_answer : ClaimRows → ℤ → Answer
-line_answer t line = unless_bad (is_below 64 line) (unless_busy (list_any (has_number (nat_abs line)) t.lines) (Ok tt))
+-- a line is taken where the owner holds it, or where as many as the share do
+abbrev pub is_taken : ℕ → ℕ → ℕ → List (Claim ℕ) → Bool
+is_taken share owner line lines = list_any (is_claim owner line) lines || not (ltb (count_by (has_number line) lines) share)
+
+abbrev pub line_answer : ClaimRows → ℕ → ℤ → Answer
+line_answer t owner line = unless_bad (is_below 64 line) (unless_busy (is_taken t.share owner (nat_abs line) t.lines) (Ok tt))
 
 abbrev pub with_line : ClaimRows → ℕ → ℤ → ℕ → ClaimRows
 with_line t owner line handler = record t { lines = insert_claim (claim owner (nat_abs line) handler) t.lines }
@@ -86,14 +90,6 @@ without_param t owner key = record t { params = filter (is_not_claim owner (nat_
 
 abbrev pub with_param : ClaimRows → ℕ → ℤ → ℤ → ClaimRows
 with_param t owner key value = record t { params = insert_claim (claim owner (nat_abs key) value) (filter (is_not_claim owner (nat_abs key)) t.params) }
-
-abbrev pub without_owner : ClaimRows → ℕ → ClaimRows
-without_owner t owner = record {
-  lines = filter (is_not_owned owner) t.lines;
-  ports = filter (is_not_owned owner) t.ports;
-  devices = filter (is_not_owned owner) t.devices;
-  params = filter (is_not_owned owner) t.params;
-}
 
 abbrev pub detail_of : {D : Type 0} → Option (Claim D) → Option D
 detail_of None = None

@@ -63,7 +63,7 @@ refused_as (Err Full) = Some IsFull
 
 -- what is said of every lawful history of which the table holds its part
 abbrev pub OfEachHistory : ClaimRows → (History → Type 0) → Type 0
-OfEachHistory t P = (h : History) → IsLawful h → IsProper h → HoldsClaims t (live_of h) → P h
+OfEachHistory t P = (h : History) → IsLawful t.share h → IsProper h → HoldsClaims t (live_of h) → P h
 
 abbrev pub holder_by : ℤ → ℕ → Update → Option Holder
 holder_by line owner (Line held handler) = cond (int_eq held line) (Some (record { owner = owner; handler = handler })) None

@@ -1,19 +1,21 @@
 -- What the table of claims contains.
-use Rattle.std.specs.Prelude.{ℕ, Bool, ◌&&◌, ltb, eqb, ◌+◌, not, List, [], ℤ, pos, int_lt, nat_abs, cond, Option, Some, None}
+use Rattle.std.specs.Prelude.{ℕ, ◌≤◌, Bool, ◌&&◌, ◌||◌, ltb, eqb, ◌+◌, not, List, [], ℤ, pos, int_lt, nat_abs, cond, Option, Some, None}
 use Rattle.sd_base.specs.Allowed.{is_range}
 use Rattle.claim_table.specs.declared.claim.Claim.{Claim}
 use Rattle.claim_table.specs.declared.claim.PortRange.{PortRange}
 use Rattle.claim_table.specs.Ordered.{FewOfEach}
 
--- the claims of each kind, each in order: lines with their handlers, first ports with how many, devices, parameters with their values
+-- how many owners may hold one line, and the claims of each kind, each in order: lines with their handlers, first ports with how many, devices, parameters with their values
 pub record ClaimRows : Type 0 where
+  pub share : ℕ
   pub lines : List (Claim ℕ)
   pub ports : List (Claim ℕ)
   pub devices : List (Claim (Unit {0}))
   pub params : List (Claim ℤ)
 
-abbrev pub no_claims : ClaimRows
-no_claims = record { lines = []; ports = []; devices = []; params = [] }
+-- nothing is held
+abbrev pub no_claims : ℕ → ClaimRows
+no_claims share = record { share = share; lines = []; ports = []; devices = []; params = [] }
 
 abbrev pub claim : {D : Type 0} → ℕ → ℕ → D → Claim D
 claim owner number detail = record { owner = owner; number = number; detail = detail }
@@ -37,9 +39,14 @@ covers owner port c = eqb c.owner owner && (not (int_lt port (pos c.number)) && 
 abbrev pub is_wide : Claim ℕ → Bool
 is_wide c = ltb 65536 c.detail
 
--- the caps: one holder for each of 64 lines, and 32 ranges, devices and parameters for each of 5 owners
+-- one owner holds a line, or up to four
+abbrev pub is_share : ℕ → Bool
+is_share share = eqb share 1 || eqb share 4
+
+-- the caps: as many holders as the share for each of 64 lines, and 32 ranges, devices and parameters for each of 5 owners
 pub record HasCaps (t : ClaimRows) : Type 0 where
-  pub lines : FewOfEach (λ c. c.number) 64 1 t.lines
+  pub share : t.share ≤ 4
+  pub lines : FewOfEach (λ c. c.number) 64 t.share t.lines
   pub ports : FewOfEach (λ c. c.owner) 5 32 t.ports
   pub devices : FewOfEach (λ c. c.owner) 5 32 t.devices
   pub params : FewOfEach (λ c. c.owner) 5 32 t.params

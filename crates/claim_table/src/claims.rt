@@ -3,10 +3,10 @@ ghost use Rattle.std.specs.Prelude.{◌≡◌, ◌+◌, ◌≤◌, true, false, 
 ghost use Rattle.std.specs.List.{list_any};
 ghost use Rattle.sd_base.specs.declared.history.Update.TheVariants.{Line, FreeLine, Ports, DropPorts, Device, DelDevice, Param, ClearParam};
 ghost use Rattle.sd_base.specs.History.{line_key, ports_key, device_key, param_key};
-ghost use Rattle.sd_base.specs.Part.{Serves, Loses, Forgets};
+ghost use Rattle.sd_base.specs.Part.{ServesAt, Loses};
 ghost use Rattle.claim_table.specs.Ordered.{last_of_each};
-ghost use Rattle.claim_table.specs.ClaimRows.{no_claims, is_wide, covers};
-ghost use Rattle.claim_table.specs.ClaimCalls.{if_held, line_answer, with_line, holds_line, without_line, ports_answer, with_ports, holds_ports, without_ports, device_answer, with_device, holds_device, without_device, param_answer, with_param, holds_param, without_param, without_owner, param_value, line_holder};
+ghost use Rattle.claim_table.specs.ClaimRows.{is_share, no_claims, is_wide, covers};
+ghost use Rattle.claim_table.specs.ClaimCalls.{if_held, line_answer, with_line, holds_line, without_line, ports_answer, with_ports, holds_ports, without_ports, device_answer, with_device, holds_device, without_device, param_answer, with_param, holds_param, without_param, param_value, line_holder};
 ghost use Rattle.claim_table.specs.ClaimPart.{HoldsClaims, refused_as, OfEachHistory, holders_of, holds_port, values_of};
 
 use crate::Claim;
@@ -14,7 +14,8 @@ use crate::claim::port_range;
 use crate::params::Params;
 use crate::ranges::Ranges;
 use crate::rows::{
-    Rows, count_of, has_claim, has_number, has_port, has_range, latest, meets_range, nth_of,
+    Rows, count_of, has_claim, has_number, has_port, has_range, is_taken, latest, meets_range,
+    nth_of,
 };
 use sd_base::limits::{DEVICES, PARAMETERS, PORT_RANGES};
 use sd_base::{Memory, Steps, number_below};
@@ -52,6 +53,7 @@ const PARAMETER_KEYS: u16 = 256;
 /// Who holds which lines, ports, devices and parameters.
 #[derive(Drop)]
 pub struct Claims {
+    share: u8,
     lines: Rows<u32>,
     ports: Ranges,
     devices: Rows<()>,
@@ -63,17 +65,26 @@ impl Model for Claims {
 
     ghost Value = { ClaimRows };
 
-    ghost view = { λ a. record { lines = a.lines; ports = a.ports; devices = a.devices; params = a.params } };
+    ghost view = { λ a. record { share = a.share; lines = a.lines; ports = a.ports; devices = a.devices; params = a.params } };
 
-    ghost invariant = { λ a. HasCaps (record { lines = a.lines; ports = a.ports; devices = a.devices; params = a.params }) };
+    ghost invariant = { λ a. HasCaps (record { share = a.share; lines = a.lines; ports = a.ports; devices = a.devices; params = a.params }) };
 }
 
 impl Claims {
-    /// A table of no claims. All memory that it ever takes is taken here.
+    /// A table of no claims, of whose lines each may have one holder. All memory that it ever takes is taken here.
     pub fn new(alloc: Global) -> Result<Claims, Memory>
-        ensures { IfOk result (λ claims. claims ≡ no_claims) }
+        ensures { IfOk result (λ claims. claims ≡ no_claims 1) }
+    {
+        Claims::with_share(alloc, 1)
+    }
+
+    /// The same, of whose lines each may have as many holders as the share, which is 1 or 4.
+    pub fn with_share(alloc: Global, share: u8) -> Result<Claims, Memory>
+        requires { is_share share ≡ true }
+        ensures { IfOk result (λ claims. claims ≡ no_claims share) }
     {
         Ok(Claims {
+            share,
             lines: Rows::new(alloc)?,
             ports: Ranges::new(alloc)?,
             devices: Rows::new(alloc)?,
@@ -83,18 +94,18 @@ impl Claims {
 
     /// Gives an owner a line, from 0 to 63, which its `handler` serves.
     ///
-    /// Bad where there is no such line, Busy where any owner holds it.
+    /// Bad where there is no such line, Busy where the owner holds it or as many owners as the share do.
     pub fn claim_line(&mut self, owner: u8, line: i32, handler: u32) -> Result<(), ClaimRefusal>
         requires { owner ≤ 4 }
-        ensures answer { result ≡ line_answer self.old line }
+        ensures answer { result ≡ line_answer self.old owner line }
         ensures ok { OnOk result (self.new ≡ with_line self.old owner line handler) }
         ensures err { OnErr result (self.new ≡ self.old) }
-        ensures serves { Serves HoldsClaims self.old owner (Line line handler) (refused_as result) self.new }
+        ensures serves { ServesAt self.old.share HoldsClaims self.old owner (Line line handler) (refused_as result) self.new }
     {
         let Some(number) = number_below(line, LINES) else {
             return Err(ClaimRefusal::Bad);
         };
-        if has_number(self.lines.as_slice(), number) {
+        if is_taken(self.share, owner, number, self.lines.as_slice()) {
             return Err(ClaimRefusal::Busy);
         }
         self.lines.insert(Claim {
@@ -110,7 +121,7 @@ impl Claims {
         ensures answer { result ≡ if_held (holds_line self.old owner line) }
         ensures ok { OnOk result (self.new ≡ without_line self.old owner line) }
         ensures err { OnErr result (self.new ≡ self.old) }
-        ensures serves { Serves HoldsClaims self.old owner (FreeLine line) (refused_as result) self.new }
+        ensures serves { ServesAt self.old.share HoldsClaims self.old owner (FreeLine line) (refused_as result) self.new }
     {
         let Some(number) = number_below(line, LINES) else {
             return Err(ClaimRefusal::Bad);
@@ -131,7 +142,7 @@ impl Claims {
         ensures answer { result ≡ ports_answer self.old owner base n }
         ensures ok { OnOk result (self.new ≡ with_ports self.old owner base n) }
         ensures err { OnErr result (self.new ≡ self.old) }
-        ensures serves { Serves HoldsClaims self.old owner (Ports base n) (refused_as result) self.new }
+        ensures serves { ServesAt self.old.share HoldsClaims self.old owner (Ports base n) (refused_as result) self.new }
     {
         let Some(range) = port_range(base, n) else {
             return Err(ClaimRefusal::Bad);
@@ -155,7 +166,7 @@ impl Claims {
         ensures answer { result ≡ if_held (holds_ports self.old owner base n) }
         ensures ok { OnOk result (self.new ≡ without_ports self.old owner base n) }
         ensures err { OnErr result (self.new ≡ self.old) }
-        ensures serves { Serves HoldsClaims self.old owner (DropPorts base n) (refused_as result) self.new }
+        ensures serves { ServesAt self.old.share HoldsClaims self.old owner (DropPorts base n) (refused_as result) self.new }
     {
         let Some(range) = port_range(base, n) else {
             return Err(ClaimRefusal::Bad);
@@ -175,7 +186,7 @@ impl Claims {
         ensures answer { result ≡ device_answer self.old owner id }
         ensures ok { OnOk result (self.new ≡ with_device self.old owner id) }
         ensures err { OnErr result (self.new ≡ self.old) }
-        ensures serves { Serves HoldsClaims self.old owner (Device id) (refused_as result) self.new }
+        ensures serves { ServesAt self.old.share HoldsClaims self.old owner (Device id) (refused_as result) self.new }
     {
         let Some(number) = number_below(id, DEVICE_IDS) else {
             return Err(ClaimRefusal::Bad);
@@ -199,7 +210,7 @@ impl Claims {
         ensures answer { result ≡ if_held (holds_device self.old owner id) }
         ensures ok { OnOk result (self.new ≡ without_device self.old owner id) }
         ensures err { OnErr result (self.new ≡ self.old) }
-        ensures serves { Serves HoldsClaims self.old owner (DelDevice id) (refused_as result) self.new }
+        ensures serves { ServesAt self.old.share HoldsClaims self.old owner (DelDevice id) (refused_as result) self.new }
     {
         let Some(number) = number_below(id, DEVICE_IDS) else {
             return Err(ClaimRefusal::Bad);
@@ -220,7 +231,7 @@ impl Claims {
         ensures answer { result ≡ param_answer self.old owner key }
         ensures ok { OnOk result (self.new ≡ with_param self.old owner key value) }
         ensures err { OnErr result (self.new ≡ self.old) }
-        ensures serves { Serves HoldsClaims self.old owner (Param key value) (refused_as result) self.new }
+        ensures serves { ServesAt self.old.share HoldsClaims self.old owner (Param key value) (refused_as result) self.new }
     {
         let Some(number) = number_below(key, PARAMETER_KEYS) else {
             return Err(ClaimRefusal::Bad);
@@ -243,7 +254,7 @@ impl Claims {
         ensures answer { result ≡ if_held (holds_param self.old owner key) }
         ensures ok { OnOk result (self.new ≡ without_param self.old owner key) }
         ensures err { OnErr result (self.new ≡ self.old) }
-        ensures serves { Serves HoldsClaims self.old owner (ClearParam key) (refused_as result) self.new }
+        ensures serves { ServesAt self.old.share HoldsClaims self.old owner (ClearParam key) (refused_as result) self.new }
     {
         let Some(number) = number_below(key, PARAMETER_KEYS) else {
             return Err(ClaimRefusal::Bad);
@@ -372,16 +383,5 @@ impl Claims {
             self.params.drop_claim(owner, number);
             steps.tick();
         }
-    }
-
-    /// Takes away all that an owner has.
-    pub fn drop_rows(&mut self, owner: u8)
-        ensures dropped { self.new ≡ without_owner self.old owner }
-        ensures forgets { Forgets HoldsClaims self.old owner self.new }
-    {
-        self.lines.drop_owner(owner);
-        self.ports.drop_owner(owner);
-        self.devices.drop_owner(owner);
-        self.params.drop_owner(owner);
     }
 }

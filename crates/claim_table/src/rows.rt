@@ -3,6 +3,7 @@ ghost use Rattle.std.specs.Prelude.{◌≡◌, ◌<◌, ◌≤◌, [], List, len
 ghost use Rattle.std.specs.List.{list_any, filter, count_by};
 ghost use Rattle.sd_base.specs.Selection.{find_last};
 ghost use Rattle.claim_table.specs.Ordered.{begins_with, has_number, is_owned, is_not_owned, is_claim, is_not_claim, insert_claim, last_of_each};
+ghost use Rattle.claim_table.specs.ClaimCalls.{is_taken};
 ghost use Rattle.claim_table.specs.ClaimRows.{range_meets, is_range_claim, is_not_range_claim, covers};
 
 use crate::Claim;
@@ -10,7 +11,7 @@ use sd_base::Memory;
 use std::alloc::Global;
 use std::marker::Model;
 
-/// The claims of one kind that can stand beside each other: 160 of ports, devices and parameters, 64 of lines.
+/// The claims of one kind that can stand beside each other: 160 of ports, devices and parameters, 4 of each of 64 lines.
 const ROOM: usize = 256;
 
 /// Claims in the order of their numbers, those of one number in the order of their making.
@@ -100,6 +101,20 @@ fn begins_with<D>(claims: &[Claim<D>], number: u16) -> bool
         Some(claim) => claim.number == number,
         None => false,
     }
+}
+
+/// How many claims have this number.
+fn holders(claims: &[Claim<u32>], number: u16) -> usize
+    ensures { result ≡ count_by (has_number number) claims.now }
+{
+    claims.iter().filter(|c| c.number == number).count()
+}
+
+/// Whether the owner holds this line, or as many owners as the share do.
+pub fn is_taken(share: u8, owner: u8, line: u16, claims: &[Claim<u32>]) -> bool
+    ensures { result ≡ is_taken share owner line claims.now }
+{
+    has_claim(claims, owner, line) || holders(claims, line) >= usize::from(share)
 }
 
 /// Whether a claim has this number.

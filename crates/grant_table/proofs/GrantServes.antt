@@ -9,7 +9,7 @@ use Rattle.sd_base.specs.Selection.{without_first}
 use Rattle.sd_base.specs.History.{Entry, entry, block_key, free_key, is_of, live_of, clock_of, Without}
 use Rattle.sd_base.specs.Blocks.{Block, next_base, count_of, first_state, has_base, granted, has_room, is_image, is_freed}
 use Rattle.sd_base.specs.Allowed.{free_refusal, refusal_on}
-use Rattle.sd_base.specs.Part.{Serves, Loses, Forgets}
+use Rattle.sd_base.specs.Part.{Serves, Loses}
 use Rattle.sd_base.specs.Sound.{IsSound}
 use Rattle.sd_base.proofs.SoundLive.{lawful_sound}
 use Rattle.grant_table.specs.declared.blocks.BlockRow.{BlockRow}
@@ -24,9 +24,9 @@ room_rule : (bs : List Block) (layout : Layout) (n : ℤ) → no_room (base_for 
 room_rule bs layout (pos n) = grind (arith, next_rows bs, length_rows bs)
 room_rule bs layout (negsuc n) = refl
 
-grant_rule : (t : List (List BlockRow)) (live : List Entry) (clock owner : ℕ) (layout : Layout) (n : ℤ) (image : Bool) → owner ≤ 4 → HoldsGrants t live →
-    no_room (base_for (get_or t owner []) layout.size n) ≡ refusal_on live clock owner (Grant layout n image)
-grant_rule t live clock owner layout n image few h = ap (λ rows. no_room (base_for rows layout.size n)) (h.rows owner few) ∙ room_rule (granted live owner) layout n
+grant_rule : (share : ℕ) (t : List (List BlockRow)) (live : List Entry) (clock owner : ℕ) (layout : Layout) (n : ℤ) (image : Bool) → owner ≤ 4 → HoldsGrants t live →
+    no_room (base_for (get_or t owner []) layout.size n) ≡ refusal_on share live clock owner (Grant layout n image)
+grant_rule share t live clock owner layout n image few h = ap (λ rows. no_room (base_for rows layout.size n)) (h.rows owner few) ∙ room_rule (granted live owner) layout n
 
 granted_base : (rows : List BlockRow) (size : ℕ) (n : ℤ) (base : ℕ) → Some base ≡ base_for rows size n → base ≡ next_base_of 16 rows
 granted_base rows size (pos n) base h = grind arith
@@ -50,15 +50,15 @@ pub grant_serves : (old new : List (List BlockRow)) (owner : ℕ) (layout : Layo
     answer ≡ base_for (get_or old owner []) layout.size n →
     IfSome answer (λ base. new ≡ set old owner (get_or old owner [] ++ block_row_of base layout.size n (first_state image) ∷ [])) →
     Serves HoldsGrants old owner (Grant layout n image) (no_room answer) new
-grant_serves old new owner layout n image None five few is after h lawful proper holds =
-    (ap no_room is ∙ grant_rule old (live_of h) (clock_of h) owner layout n image few holds, λ ok. cc)
-grant_serves old new owner layout n image (Some base) five few is after h lawful proper holds =
-    (ap no_room is ∙ grant_rule old (live_of h) (clock_of h) owner layout n image few holds, λ ok. grant_comes old new (live_of h) owner layout n image base five few holds is after)
+grant_serves old new owner layout n image None five few is after share h lawful proper holds =
+    (ap no_room is ∙ grant_rule share old (live_of h) (clock_of h) owner layout n image few holds, λ ok. cc)
+grant_serves old new owner layout n image (Some base) five few is after share h lawful proper holds =
+    (ap no_room is ∙ grant_rule share old (live_of h) (clock_of h) owner layout n image few holds, λ ok. grant_comes old new (live_of h) owner layout n image base five few holds is after)
 
 pub grant_base : (old : List (List BlockRow)) (owner size : ℕ) (n : ℤ) (answer : Option ℕ) → owner ≤ 4 → answer ≡ base_for (get_or old owner []) size n →
     IfSome answer (λ base. OfEachHistory old (λ h. base ≡ next_base (granted h owner)))
 grant_base old owner size n None few is = tt
-grant_base old owner size n (Some base) few is = λ h lawful proper holds.
+grant_base old owner size n (Some base) few is = λ share h lawful proper holds.
     granted_base (get_or old owner []) size n base is ∙ ap (next_base_of 16) (holds.rows owner few) ∙ next_rows (granted (live_of h) owner) ∙ ap next_base (granted-live_of h owner)
 
 release_same : (o : Option Block) → not_released (release_of (option_map block_row o)) ≡ free_refusal o
@@ -69,9 +69,9 @@ release_same (Some b) =
       | false ↦ elim (is_freed b.state) as (λ f. not_released (cond f (Err Freed) (Ok tt)) ≡ cond f (not_released (Err Freed)) None) [ true ↦ refl | false ↦ refl ]
     ]
 
-release_rule : (t : List (List BlockRow)) (live : List Entry) (clock owner base : ℕ) → owner ≤ 4 → IsSound live → HoldsGrants t live →
-    not_released (release_answer base (get_or t owner [])) ≡ refusal_on live clock owner (Free base)
-release_rule t live clock owner base few s h =
+release_rule : (share : ℕ) (t : List (List BlockRow)) (live : List Entry) (clock owner base : ℕ) → owner ≤ 4 → IsSound live → HoldsGrants t live →
+    not_released (release_answer base (get_or t owner [])) ≡ refusal_on share live clock owner (Free base)
+release_rule share t live clock owner base few s h =
     ap (λ rows. not_released (release_answer base rows)) (h.rows owner few)
     ∙ ap (λ o. not_released (release_of o)) (find_rows base (granted live owner) (granted_stack live owner s.blocks))
     ∙ release_same (find (has_base base) (granted live owner))
@@ -92,9 +92,9 @@ released (Err Freed) P h ok = cc
 
 pub release_serves : (old new : List (List BlockRow)) (owner base : ℕ) (answer : Result (Unit {0}) ReleaseRefusal) → length old ≡ 5 → owner ≤ 4 → answer ≡ release_answer base (get_or old owner []) →
     OnOk answer (new ≡ set old owner (with_state_of base StateFreed (get_or old owner []))) → Serves HoldsGrants old owner (Free base) (not_released answer) new
-release_serves old new owner base answer five few is after h lawful proper holds =
-    let sound : IsSound (live_of h) = lawful_sound h proper lawful in (
-      ap not_released is ∙ release_rule old (live_of h) (clock_of h) owner base few sound holds,
+release_serves old new owner base answer five few is after share h lawful proper holds =
+    let sound : IsSound (live_of h) = lawful_sound share h proper lawful in (
+      ap not_released is ∙ release_rule share old (live_of h) (clock_of h) owner base few sound holds,
       λ ok. release_goes old new (live_of h) owner base five few sound holds (released answer (new ≡ set old owner (with_state_of base StateFreed (get_or old owner []))) after ok),
     )
 
@@ -130,6 +130,3 @@ free_loses old new owner base five few freed is live s h =
     ap (with_state_of base Live) (h.rows owner few) ∙ sym (state_rows base Live (granted live owner) (granted_stack live owner s.blocks)) ∙ ap rows_of (sym was.back) in
     subst (λ x. HoldsGrants x (without_first (is_of owner (free_key base)) live)) (sym is)
     (set_rows old live (without_first (is_of owner (free_key base)) live) owner _ five few h rows (λ other apart. granted-without_of owner other (free_key base) live apart))
-
-pub drop_forgets : (old new : List (List BlockRow)) (owner : ℕ) → length old ≡ 5 → owner ≤ 4 → new ≡ set old owner [] → Forgets HoldsGrants old owner new
-drop_forgets old new owner five few is h holds = subst (λ x. HoldsGrants x (live_of (Without h owner))) (sym is) (owner_goes old h owner five few holds)

@@ -30,6 +30,6 @@ not_released (Ok done) = None
 not_released (Err NotBlock) = Some IsNoBlock
 not_released (Err Freed) = Some IsFreed
 
--- what is said of every lawful history of which the table holds its part
+-- what is said of every lawful history, whatever its share, of which the table holds its part
 abbrev pub OfEachHistory : List (List BlockRow) → (History → Type 0) → Type 0
-OfEachHistory t P = (h : History) → IsLawful h → IsProper h → HoldsGrants t (live_of h) → P h
+OfEachHistory t P = (share : ℕ) (h : History) → IsLawful share h → IsProper h → HoldsGrants t (live_of h) → P h

@@ -4,7 +4,7 @@ ghost use Rattle.sd_base.specs.declared.history.BlockState.TheVariants.{Live, Fr
 ghost use Rattle.sd_base.specs.declared.history.Update.TheVariants.{Grant, Free};
 ghost use Rattle.sd_base.specs.History.{block_key, free_key};
 ghost use Rattle.sd_base.specs.Blocks.{first_state, next_base, granted};
-ghost use Rattle.sd_base.specs.Part.{Serves, Loses, Forgets};
+ghost use Rattle.sd_base.specs.Part.{Serves, Loses};
 ghost use Rattle.grant_table.specs.BlockRows.{base_for, block_row_of, release_answer, with_state_of, is_freed_at, ends_with};
 ghost use Rattle.grant_table.specs.GrantPart.{HoldsGrants, no_room, not_released, OfEachHistory};
 
@@ -124,15 +124,5 @@ impl Grants {
         let blocks = &mut self.owners[usize::from(owner)];
         blocks.revive(base);
         steps.tick();
-    }
-
-    /// Takes away all blocks of an owner.
-    pub fn drop_rows(&mut self, owner: u8)
-        requires { owner ≤ 4 }
-        ensures dropped { self.new ≡ set self.old owner [] }
-        ensures forgets { Forgets HoldsGrants self.old owner self.new }
-    {
-        let blocks = &mut self.owners[usize::from(owner)];
-        blocks.clear();
     }
 }

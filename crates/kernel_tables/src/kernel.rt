@@ -1,5 +1,6 @@
 //! The tables and the clock.
-ghost use Rattle.std.specs.Prelude.{◌≡◌, [], IfOk, slice_get};
+ghost use Rattle.std.specs.Prelude.{◌≡◌, [], true, IfOk, slice_get};
+ghost use Rattle.claim_table.specs.ClaimRows.{is_share};
 ghost use Rattle.kernel_tables.specs.Standing.{StandsFor};
 ghost use Rattle.sd_base.specs.History.{History};
 ghost use Rattle.kernel_tables.specs.TableRows.{tables_of};
@@ -30,13 +31,24 @@ pub struct Kernel {
 }
 
 impl Kernel {
-    /// Empty tables at clock 0, which stand for the empty history. All memory that they ever take is taken here.
+    /// Empty tables at clock 0, of whose lines each may have one holder; they stand for the empty history. All memory that they
+    /// ever take is taken here.
     pub fn new(alloc: Global) -> Result<Kernel, Memory>
-        ensures { IfOk result (λ kernel. StandsFor kernel []) }
+        ensures stands { IfOk result (λ kernel. StandsFor kernel []) }
+        ensures share { IfOk result (λ kernel. kernel.claims.share ≡ 1) }
+    {
+        Kernel::with_share(alloc, 1)
+    }
+
+    /// The same, of whose lines each may have as many holders as the share, which is 1 or 4.
+    pub fn with_share(alloc: Global, share: u8) -> Result<Kernel, Memory>
+        requires { is_share share ≡ true }
+        ensures stands { IfOk result (λ kernel. StandsFor kernel []) }
+        ensures share { IfOk result (λ kernel. kernel.claims.share ≡ share) }
     {
         Ok(Kernel {
             grants: Grants::new(alloc)?,
-            claims: Claims::new(alloc)?,
+            claims: Claims::with_share(alloc, share)?,
             timers: Timers::new(alloc)?,
             shares: Shares::new(alloc)?,
             now: 0,

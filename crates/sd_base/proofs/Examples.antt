@@ -10,47 +10,47 @@ use Rattle.sd_base.specs.Allowed.{refusal}
 abbrev line_5 : History
 line_5 = entry 1 (Line (pos 5) 0) ∷ []
 
-a_line_is_granted_once : refusal line_5 2 (Line (pos 5) 0) ≡ Some Busy
+a_line_is_granted_once : refusal 1 line_5 2 (Line (pos 5) 0) ≡ Some Busy
 a_line_is_granted_once = refl
 
-a_line_out_of_range : refusal line_5 2 (Line (pos 64) 0) ≡ Some Bad
+a_line_out_of_range : refusal 1 line_5 2 (Line (pos 64) 0) ≡ Some Bad
 a_line_out_of_range = refl
 
-a_line_below_zero : refusal line_5 2 (Line (negsuc 0) 0) ≡ Some Bad
+a_line_below_zero : refusal 1 line_5 2 (Line (negsuc 0) 0) ≡ Some Bad
 a_line_below_zero = refl
 
-another's_line_is_not_given_back : refusal line_5 2 (FreeLine (pos 5)) ≡ Some Bad
+another's_line_is_not_given_back : refusal 1 line_5 2 (FreeLine (pos 5)) ≡ Some Bad
 another's_line_is_not_given_back = refl
 
-a_line_is_free_again : refusal (entry 1 (FreeLine (pos 5)) ∷ line_5) 2 (Line (pos 5) 0) ≡ None
+a_line_is_free_again : refusal 1 (entry 1 (FreeLine (pos 5)) ∷ line_5) 2 (Line (pos 5) 0) ≡ None
 a_line_is_free_again = refl
 
 abbrev lock_3 : History
 lock_3 = entry 1 (Lock (pos 3) 1) ∷ []
 
-a_held_lock_names_its_holder : refusal lock_3 2 (Lock (pos 3) 2) ≡ Some (HeldBy (record { owner = 1; task = 1 }))
+a_held_lock_names_its_holder : refusal 1 lock_3 2 (Lock (pos 3) 2) ≡ Some (HeldBy (record { owner = 1; task = 1 }))
 a_held_lock_names_its_holder = refl
 
-another_task_does_not_unlock : refusal lock_3 1 (Unlock (pos 3) 2) ≡ Some Unheld
+another_task_does_not_unlock : refusal 1 lock_3 1 (Unlock (pos 3) 2) ≡ Some Unheld
 another_task_does_not_unlock = refl
 
 -- ranges of ports that touch are apart
 abbrev ports_16 : History
 ports_16 = entry 1 (Ports (pos 16) (pos 8)) ∷ []
 
-touching_ranges_are_apart : refusal ports_16 2 (Ports (pos 24) (pos 8)) ≡ None
+touching_ranges_are_apart : refusal 1 ports_16 2 (Ports (pos 24) (pos 8)) ≡ None
 touching_ranges_are_apart = refl
 
-one_common_port : refusal ports_16 2 (Ports (pos 23) (pos 8)) ≡ Some Busy
+one_common_port : refusal 1 ports_16 2 (Ports (pos 23) (pos 8)) ≡ Some Busy
 one_common_port = refl
 
-the_last_port : refusal [] 1 (Ports (pos 65535) (pos 1)) ≡ None
+the_last_port : refusal 1 [] 1 (Ports (pos 65535) (pos 1)) ≡ None
 the_last_port = refl
 
-past_the_last_port : refusal [] 1 (Ports (pos 65535) (pos 2)) ≡ Some Bad
+past_the_last_port : refusal 1 [] 1 (Ports (pos 65535) (pos 2)) ≡ Some Bad
 past_the_last_port = refl
 
-only_the_whole_range_is_given_back : refusal ports_16 1 (DropPorts (pos 16) (pos 7)) ≡ Some Bad
+only_the_whole_range_is_given_back : refusal 1 ports_16 1 (DropPorts (pos 16) (pos 7)) ≡ Some Bad
 only_the_whole_range_is_given_back = refl
 
 -- bases begin at 16 and are multiples of it
@@ -63,26 +63,26 @@ blocks = entry 1 (Free 16) ∷ entry 1 five_bytes ∷ entry 2 five_bytes ∷ ent
 bases_are_rounded_up : map (λ (b : Block). b.base) (granted blocks 1) ≡ 32 ∷ 16 ∷ []
 bases_are_rounded_up = refl
 
-no_block_is_freed_twice : refusal blocks 1 (Free 16) ≡ Some Freed
+no_block_is_freed_twice : refusal 1 blocks 1 (Free 16) ≡ Some Freed
 no_block_is_freed_twice = refl
 
-a_live_block_is_freed : refusal blocks 1 (Free 32) ≡ None
+a_live_block_is_freed : refusal 1 blocks 1 (Free 32) ≡ None
 a_live_block_is_freed = refl
 
-another's_block_is_none : refusal blocks 2 (Free 32) ≡ Some NotBlock
+another's_block_is_none : refusal 1 blocks 2 (Free 32) ≡ Some NotBlock
 another's_block_is_none = refl
 
-no_block_of_no_element : refusal [] 1 (Grant (record { elem = 0; size = 4; nullterm = false }) (pos 0) false) ≡ Some NoRoom
+no_block_of_no_element : refusal 1 [] 1 (Grant (record { elem = 0; size = 4; nullterm = false }) (pos 0) false) ≡ Some NoRoom
 no_block_of_no_element = refl
 
 -- the whole arena but its first 16 bytes
-the_greatest_block : refusal [] 1 (Grant (record { elem = 0; size = 4; nullterm = false }) (pos 262140) false) ≡ None
+the_greatest_block : refusal 1 [] 1 (Grant (record { elem = 0; size = 4; nullterm = false }) (pos 262140) false) ≡ None
 the_greatest_block = refl
 
-too_great_a_block : refusal [] 1 (Grant (record { elem = 0; size = 4; nullterm = false }) (pos 262141) false) ≡ Some NoRoom
+too_great_a_block : refusal 1 [] 1 (Grant (record { elem = 0; size = 4; nullterm = false }) (pos 262141) false) ≡ Some NoRoom
 too_great_a_block = refl
 
-image_blocks_are_not_freed : refusal (entry 1 (Grant (record { elem = 0; size = 4; nullterm = false }) (pos 1) true) ∷ []) 1 (Free 16) ≡ Some NotBlock
+image_blocks_are_not_freed : refusal 1 (entry 1 (Grant (record { elem = 0; size = 4; nullterm = false }) (pos 1) true) ∷ []) 1 (Free 16) ≡ Some NotBlock
 image_blocks_are_not_freed = refl
 
 -- what a net list keeps
@@ -99,19 +99,19 @@ a_hold_let_go_ends_the_latest = refl
 a_taken_item_is_the_oldest : net_of (entry 1 Taken ∷ entry 1 (Work 1 (pos 8)) ∷ entry 1 (Work 1 (pos 7)) ∷ []) 1 ≡ Work 1 (pos 8) ∷ []
 a_taken_item_is_the_oldest = refl
 
-the_front_is_another's : refusal (entry 2 (Work 1 (pos 8)) ∷ entry 1 (Work 1 (pos 7)) ∷ []) 2 Taken ≡ Some Bad
+the_front_is_another's : refusal 1 (entry 2 (Work 1 (pos 8)) ∷ entry 1 (Work 1 (pos 7)) ∷ []) 2 Taken ≡ Some Bad
 the_front_is_another's = refl
 
 a_freed_block_stays_in_the_net_list : net_of blocks 1 ≡ Free 16 ∷ five_bytes ∷ five_bytes ∷ []
 a_freed_block_stays_in_the_net_list = refl
 
-the_clock_goes_on : refusal (entry 0 (Clock 9) ∷ []) 0 (Clock 8) ≡ Some Bad
+the_clock_goes_on : refusal 1 (entry 0 (Clock 9) ∷ []) 0 (Clock 8) ≡ Some Bad
 the_clock_goes_on = refl
 
-a_mask_is_held_once : refusal (entry 1 (Mask 1) ∷ []) 1 (Mask 1) ≡ Some Busy
+a_mask_is_held_once : refusal 1 (entry 1 (Mask 1) ∷ []) 1 (Mask 1) ≡ Some Busy
 a_mask_is_held_once = refl
 
-a_timer_fires_once : refusal (entry 1 (Fired (pos 3)) ∷ entry 1 (Timer (pos 3) 9 0 (pos 0)) ∷ []) 1 (Fired (pos 3)) ≡ Some Bad
+a_timer_fires_once : refusal 1 (entry 1 (Fired (pos 3)) ∷ entry 1 (Timer (pos 3) 9 0 (pos 0)) ∷ []) 1 (Fired (pos 3)) ≡ Some Bad
 a_timer_fires_once = refl
 
 -- an owner left out

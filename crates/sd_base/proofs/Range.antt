@@ -8,15 +8,15 @@ use Rattle.sd_base.specs.Allowed.{refusal_on, IsLawful, is_in_range, is_astray}
 use Rattle.sd_base.proofs.Removal.{list_any-without_first, list_any-without_last}
 
 -- what is accepted is in range
-in_range : (live : List Entry) (clock owner : ℕ) (u : Update) → refusal_on live clock owner u ≡ None → is_in_range u ≡ true
-in_range live clock owner (Line line handler) h = grind arith
-in_range live clock owner (Ports base n) h = grind arith
-in_range live clock owner (Device id) h = grind arith
-in_range live clock owner (Param key value) h = grind arith
-in_range live clock owner (Timer id due handler arg) h = grind arith
-in_range live clock owner (Lock lock task) h = grind arith
-in_range live clock owner (Hold domain) h = grind arith
-in_range live clock owner _ h = refl
+in_range : (share : ℕ) (live : List Entry) (clock owner : ℕ) (u : Update) → refusal_on share live clock owner u ≡ None → is_in_range u ≡ true
+in_range share live clock owner (Line line handler) h = grind arith
+in_range share live clock owner (Ports base n) h = grind arith
+in_range share live clock owner (Device id) h = grind arith
+in_range share live clock owner (Param key value) h = grind arith
+in_range share live clock owner (Timer id due handler arg) h = grind arith
+in_range share live clock owner (Lock lock task) h = grind arith
+in_range share live clock owner (Hold domain) h = grind arith
+in_range share live clock owner _ h = refl
 
 after_in_range : (r : Role) (e : Entry) (live : List Entry) → is_astray e ≡ false → list_any is_astray live ≡ false → list_any is_astray (after_role r e live) ≡ false
 after_in_range Begins e live h k = grind arith
@@ -26,8 +26,8 @@ after_in_range EndsOldest e live h k = list_any-without_last (is_of e.owner (key
 after_in_range Passes e live h k = k
 
 -- no live entry of a lawful history has a number that its rule refuses
-pub none_astray : (h : History) → IsLawful h → list_any is_astray (live_of h) ≡ false
-none_astray [] l = refl
-none_astray (e ∷ h) l =
-    let fits : is_in_range e.update ≡ true = in_range (live_of h) (clock_of h) e.owner e.update l.0 in
-    after_in_range (role_of e.update) e (live_of h) (grind arith) (none_astray h l.1)
+pub none_astray : (share : ℕ) (h : History) → IsLawful share h → list_any is_astray (live_of h) ≡ false
+none_astray share [] l = refl
+none_astray share (e ∷ h) l =
+    let fits : is_in_range e.update ≡ true = in_range share (live_of h) (clock_of h) e.owner e.update l.0 in
+    after_in_range (role_of e.update) e (live_of h) (grind arith) (none_astray share h l.1)

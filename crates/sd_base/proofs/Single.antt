@@ -100,19 +100,18 @@ holds_lock : (owner task : ℕ) (lock : ℤ) (x : Entry) → is_of owner (lock_k
 holds_lock owner task lock x h = grind arith
 
 -- what is accepted and begins has no other of its owner and its key beside it, where the kind is single
-alone : (live : List Entry) (clock owner : ℕ) (u : Update) → is_single (key_of u).resource ≡ true → role_of u ≡ Begins → refusal_on live clock owner u ≡ None →
+alone : (share : ℕ) (live : List Entry) (clock owner : ℕ) (u : Update) → is_single (key_of u).resource ≡ true → role_of u ≡ Begins → refusal_on share live clock owner u ≡ None →
     list_any (is_of owner (key_of u)) live ≡ false
-alone live clock owner (Line line handler) s r h =
-    list_any-wider (has_key (line_key line)) (is_of owner (line_key line)) (within_line owner (line_key line)) live (grind arith)
-alone live clock owner (Ports base n) s r h =
+alone share live clock owner (Line line handler) s r h = grind arith
+alone share live clock owner (Ports base n) s r h =
     list_any-wider (meets base n) (is_of owner (ports_key base n)) (meets_itself owner base n (grind arith)) live (grind arith)
-alone live clock owner (Device id) s r h =
+alone share live clock owner (Device id) s r h =
     list_any-wider (has_key (device_key id)) (is_of owner (device_key id)) (within_line owner (device_key id)) live (grind arith)
-alone live clock owner (Lock lock task) s r h =
+alone share live clock owner (Lock lock task) s r h =
     list_any-wider (is_lock lock) (is_of owner (lock_key lock task)) (holds_lock owner task lock) live
     (list_any-find_none (is_lock lock) live (held_by-none (find (is_lock lock) live) (grind arith)))
-alone live clock owner (Mask task) s r h = grind arith
-alone live clock owner _ s r h = cc
+alone share live clock owner (Mask task) s r h = grind arith
+alone share live clock owner _ s r h = cc
 
 -- at most one, after an entry that is alone where it begins
 one_after : (r : Role) (e : Entry) (live : List Entry) (owner : ℕ) (key : Key) → live_key e.update ≡ key_by_role r (key_of e.update) →
@@ -145,18 +144,18 @@ one_after EndsOldest e live owner key is first single few = omega (arith, count_
 one_after Passes e live owner key is first single few = few
 
 -- in a lawful history an owner has each key of a single kind at most once
-pub one_each : (h : History) → IsLawful h → (owner : ℕ) (key : Key) → is_single key.resource ≡ true → count_by (is_of owner key) (live_of h) ≤ 1
-one_each [] l owner key single = omega arith
-one_each (e ∷ h) l owner key single =
-    one_after (role_of e.update) e (live_of h) owner key refl (λ r s. alone (live_of h) (clock_of h) e.owner e.update s r l.0) single (one_each h l.1 owner key single)
+pub one_each : (share : ℕ) (h : History) → IsLawful share h → (owner : ℕ) (key : Key) → is_single key.resource ≡ true → count_by (is_of owner key) (live_of h) ≤ 1
+one_each share [] l owner key single = omega arith
+one_each share (e ∷ h) l owner key single =
+    one_after (role_of e.update) e (live_of h) owner key refl (λ r s. alone share (live_of h) (clock_of h) e.owner e.update s r l.0) single (one_each share h l.1 owner key single)
 
 -- what is accepted and holds a lock has no other holder of it beside it
-lock_alone : (live : List Entry) (clock owner : ℕ) (u : Update) (lock : ℤ) → refusal_on live clock owner u ≡ None → is_lock lock (entry owner u) ≡ true →
+lock_alone : (share : ℕ) (live : List Entry) (clock owner : ℕ) (u : Update) (lock : ℤ) → refusal_on share live clock owner u ≡ None → is_lock lock (entry owner u) ≡ true →
     list_any (is_lock lock) live ≡ false
-lock_alone live clock owner (Lock k task) lock h here =
+lock_alone share live clock owner (Lock k task) lock h here =
     let same : k ≡ lock = (Decides-int_eq k lock).0 (grind arith) in
     subst (λ n. list_any (is_lock n) live ≡ false) same (list_any-find_none (is_lock k) live (held_by-none (find (is_lock k) live) (grind arith)))
-lock_alone live clock owner _ lock h here = cc
+lock_alone share live clock owner _ lock h here = cc
 
 lock_after : (r : Role) (e : Entry) (live : List Entry) (lock : ℤ) → (is_lock lock e ≡ true → list_any (is_lock lock) live ≡ false) →
     count_by (is_lock lock) live ≤ 1 → count_by (is_lock lock) (after_role r e live) ≤ 1
@@ -176,7 +175,7 @@ lock_after EndsOldest e live lock first few = omega (arith, count_by-without_las
 lock_after Passes e live lock first few = few
 
 -- in a lawful history a lock has at most one holder
-pub one_holder : (h : History) → IsLawful h → (lock : ℤ) → count_by (is_lock lock) (live_of h) ≤ 1
-one_holder [] l lock = omega arith
-one_holder (e ∷ h) l lock =
-    lock_after (role_of e.update) e (live_of h) lock (lock_alone (live_of h) (clock_of h) e.owner e.update lock l.0) (one_holder h l.1 lock)
+pub one_holder : (share : ℕ) (h : History) → IsLawful share h → (lock : ℤ) → count_by (is_lock lock) (live_of h) ≤ 1
+one_holder share [] l lock = omega arith
+one_holder share (e ∷ h) l lock =
+    lock_after (role_of e.update) e (live_of h) lock (lock_alone share (live_of h) (clock_of h) e.owner e.update lock l.0) (one_holder share h l.1 lock)

@@ -61,33 +61,33 @@ granted_room : (bs : List Block) (layout : Layout) (n : ℤ) → cond (has_room 
 granted_room bs layout n h = grind arith
 
 -- what is accepted leaves the grants and the releases allowed
-blocks-after_entry : (live : List Entry) (clock owner : ℕ) (u : Update) → is_proper owner u ≡ true → refusal_on live clock owner u ≡ None → BlocksAllowed live → BlocksAllowed (after_entry (entry owner u) live)
-blocks-after_entry live clock owner (Grant layout n image) p h f = ((has_bytes owner layout n image p, granted_room (granted live owner) layout n h), f)
-blocks-after_entry live clock owner (Free base) p h f = (h, f)
-blocks-after_entry live clock owner (Line line handler) p h f = (tt, f)
-blocks-after_entry live clock owner (Ports base n) p h f = (tt, f)
-blocks-after_entry live clock owner (Device id) p h f = (tt, f)
-blocks-after_entry live clock owner (Lock lock task) p h f = (tt, f)
-blocks-after_entry live clock owner (Hold domain) p h f = (tt, f)
-blocks-after_entry live clock owner (Work handler arg) p h f = (tt, f)
-blocks-after_entry live clock owner (Mask task) p h f = (tt, f)
-blocks-after_entry live clock owner (Clock now) p h f = f
-blocks-after_entry live clock owner Taken p h f = blocks-without_last _ (leaves_key owner (key_of Taken) refl refl) live f
-blocks-after_entry live clock owner (Param key value) p h f = (tt, blocks-without_first _ (leaves_key owner (key_of (Param key value)) refl refl) live f)
-blocks-after_entry live clock owner (Timer id due handler arg) p h f = (tt, blocks-without_first _ (leaves_key owner (key_of (Timer id due handler arg)) refl refl) live f)
-blocks-after_entry live clock owner u p h f = blocks-without_first _ (leaves_key owner (key_of u) refl refl) live f
+blocks-after_entry : (share : ℕ) (live : List Entry) (clock owner : ℕ) (u : Update) → is_proper owner u ≡ true → refusal_on share live clock owner u ≡ None → BlocksAllowed live → BlocksAllowed (after_entry (entry owner u) live)
+blocks-after_entry share live clock owner (Grant layout n image) p h f = ((has_bytes owner layout n image p, granted_room (granted live owner) layout n h), f)
+blocks-after_entry share live clock owner (Free base) p h f = (h, f)
+blocks-after_entry share live clock owner (Line line handler) p h f = (tt, f)
+blocks-after_entry share live clock owner (Ports base n) p h f = (tt, f)
+blocks-after_entry share live clock owner (Device id) p h f = (tt, f)
+blocks-after_entry share live clock owner (Lock lock task) p h f = (tt, f)
+blocks-after_entry share live clock owner (Hold domain) p h f = (tt, f)
+blocks-after_entry share live clock owner (Work handler arg) p h f = (tt, f)
+blocks-after_entry share live clock owner (Mask task) p h f = (tt, f)
+blocks-after_entry share live clock owner (Clock now) p h f = f
+blocks-after_entry share live clock owner Taken p h f = blocks-without_last _ (leaves_key owner (key_of Taken) refl refl) live f
+blocks-after_entry share live clock owner (Param key value) p h f = (tt, blocks-without_first _ (leaves_key owner (key_of (Param key value)) refl refl) live f)
+blocks-after_entry share live clock owner (Timer id due handler arg) p h f = (tt, blocks-without_first _ (leaves_key owner (key_of (Timer id due handler arg)) refl refl) live f)
+blocks-after_entry share live clock owner u p h f = blocks-without_first _ (leaves_key owner (key_of u) refl refl) live f
 
-blocks_allowed : (h : History) → IsProper h → IsLawful h → BlocksAllowed (live_of h)
-blocks_allowed [] p l = tt
-blocks_allowed (e ∷ h) p l = blocks-after_entry (live_of h) (clock_of h) e.owner e.update p.0 l.0 (blocks_allowed h p.1 l.1)
+blocks_allowed : (share : ℕ) (h : History) → IsProper h → IsLawful share h → BlocksAllowed (live_of h)
+blocks_allowed share [] p l = tt
+blocks_allowed share (e ∷ h) p l = blocks-after_entry share (live_of h) (clock_of h) e.owner e.update p.0 l.0 (blocks_allowed share h p.1 l.1)
 
 -- what is live after a lawful history is sound
-pub lawful_sound : (h : History) → IsProper h → IsLawful h → IsSound (live_of h)
-lawful_sound h p l = record {
-  in_range = none_astray h l;
-  blocks = blocks_allowed h p l;
-  singles = one_each h l;
-  locks = one_holder h l;
+pub lawful_sound : (share : ℕ) (h : History) → IsProper h → IsLawful share h → IsSound (live_of h)
+lawful_sound share h p l = record {
+  in_range = none_astray share h l;
+  blocks = blocks_allowed share h p l;
+  singles = one_each share h l;
+  locks = one_holder share h l;
 }
 
 -- another owner's newest entry, taken away, leaves an owner's blocks

@@ -8,7 +8,7 @@ use Rattle.sd_base.specs.declared.history.Update.TheVariants.{Grant, Free, Line,
 use Rattle.sd_base.specs.Selection.{find_last}
 use Rattle.sd_base.specs.History.{Entry, History, Resource, OfPorts, OfDevices, OfParams, OfTimers, Key, line_key, ports_key, device_key, param_key, timer_key, lock_key, hold_key, work_key, mask_key, is_owner, has_key, is_of, is_of_kind, clock_after, live_of, clock_of, Without}
 use Rattle.sd_base.specs.Allowed.{meets, is_lock, held_by, unless_owner, refusal_on, IsLawful, is_proper, IsProper}
-use Rattle.sd_base.proofs.Counting.{count_by-filter}
+use Rattle.sd_base.proofs.Counting.{count_by-filter, count_by-filter_le}
 use Rattle.sd_base.proofs.Removal.{list_any-filter, list_any-filter_none, find-filter_none, find_last-filter}
 use Rattle.sd_base.proofs.Live.{live_of-Without}
 use Rattle.sd_base.proofs.Granted.{granted-Without}
@@ -44,29 +44,29 @@ front live o p (Some e) apart is h =
     ap (unless_owner p) (find_last-filter (other o) (has_key work_key) live e kept is) ∙ h
 
 -- what another owner may do, it may do where an owner's entries are left out: one law for each update
-pub refusal_on-Without : (live : List Entry) (clock o p : ℕ) (u : Update) → eqb p o ≡ false → refusal_on live clock p u ≡ None → refusal_on (Without live o) clock p u ≡ None
-refusal_on-Without live clock o p (Grant layout n image) apart h = rw (granted-Without live o p apart) h
-refusal_on-Without live clock o p (Free base) apart h = rw (granted-Without live o p apart) h
-refusal_on-Without live clock o p (Line line handler) apart h = grind (arith, list_any-filter_none (other o) (has_key (line_key line)) live)
-refusal_on-Without live clock o p (FreeLine line) apart h = grind (arith, has live o p (line_key line) apart)
-refusal_on-Without live clock o p (Ports base n) apart h = grind (arith, list_any-filter_none (other o) (meets base n) live, counts_kind live o p OfPorts apart)
-refusal_on-Without live clock o p (DropPorts base n) apart h = grind (arith, has live o p (ports_key base n) apart)
-refusal_on-Without live clock o p (Device id) apart h = grind (arith, list_any-filter_none (other o) (has_key (device_key id)) live, counts_kind live o p OfDevices apart)
-refusal_on-Without live clock o p (DelDevice id) apart h = grind (arith, has live o p (device_key id) apart)
-refusal_on-Without live clock o p (Param key value) apart h = grind (arith, has live o p (param_key key) apart, counts_kind live o p OfParams apart)
-refusal_on-Without live clock o p (ClearParam key) apart h = grind (arith, has live o p (param_key key) apart)
-refusal_on-Without live clock o p (Timer id due handler arg) apart h = grind (arith, has live o p (timer_key id) apart, counts_kind live o p OfTimers apart)
-refusal_on-Without live clock o p (DelTimer id) apart h = grind (arith, has live o p (timer_key id) apart)
-refusal_on-Without live clock o p (Fired id) apart h = grind (arith, has live o p (timer_key id) apart)
-refusal_on-Without live clock o p (Lock lock task) apart h = grind (arith, held_by-none (find (is_lock lock) live), find-filter_none (other o) (is_lock lock) live)
-refusal_on-Without live clock o p (Unlock lock task) apart h = grind (arith, has live o p (lock_key lock task) apart)
-refusal_on-Without live clock o p (Hold domain) apart h = grind (arith, counts live o p (hold_key domain) apart)
-refusal_on-Without live clock o p (DropHold domain) apart h = grind (arith, has live o p (hold_key domain) apart)
-refusal_on-Without live clock o p (Work handler arg) apart h = grind (arith, counts live o p work_key apart)
-refusal_on-Without live clock o p Taken apart h = front live o p (find_last (has_key work_key) live) apart refl h
-refusal_on-Without live clock o p (Mask task) apart h = grind (arith, has live o p (mask_key task) apart)
-refusal_on-Without live clock o p (Unmask task) apart h = grind (arith, has live o p (mask_key task) apart)
-refusal_on-Without live clock o p (Clock now) apart h = h
+pub refusal_on-Without : (share : ℕ) (live : List Entry) (clock o p : ℕ) (u : Update) → eqb p o ≡ false → refusal_on share live clock p u ≡ None → refusal_on share (Without live o) clock p u ≡ None
+refusal_on-Without share live clock o p (Grant layout n image) apart h = rw (granted-Without live o p apart) h
+refusal_on-Without share live clock o p (Free base) apart h = rw (granted-Without live o p apart) h
+refusal_on-Without share live clock o p (Line line handler) apart h = grind (arith, nat_tests, has live o p (line_key line) apart, count_by-filter_le (other o) (has_key (line_key line)) live)
+refusal_on-Without share live clock o p (FreeLine line) apart h = grind (arith, has live o p (line_key line) apart)
+refusal_on-Without share live clock o p (Ports base n) apart h = grind (arith, list_any-filter_none (other o) (meets base n) live, counts_kind live o p OfPorts apart)
+refusal_on-Without share live clock o p (DropPorts base n) apart h = grind (arith, has live o p (ports_key base n) apart)
+refusal_on-Without share live clock o p (Device id) apart h = grind (arith, list_any-filter_none (other o) (has_key (device_key id)) live, counts_kind live o p OfDevices apart)
+refusal_on-Without share live clock o p (DelDevice id) apart h = grind (arith, has live o p (device_key id) apart)
+refusal_on-Without share live clock o p (Param key value) apart h = grind (arith, has live o p (param_key key) apart, counts_kind live o p OfParams apart)
+refusal_on-Without share live clock o p (ClearParam key) apart h = grind (arith, has live o p (param_key key) apart)
+refusal_on-Without share live clock o p (Timer id due handler arg) apart h = grind (arith, has live o p (timer_key id) apart, counts_kind live o p OfTimers apart)
+refusal_on-Without share live clock o p (DelTimer id) apart h = grind (arith, has live o p (timer_key id) apart)
+refusal_on-Without share live clock o p (Fired id) apart h = grind (arith, has live o p (timer_key id) apart)
+refusal_on-Without share live clock o p (Lock lock task) apart h = grind (arith, held_by-none (find (is_lock lock) live), find-filter_none (other o) (is_lock lock) live)
+refusal_on-Without share live clock o p (Unlock lock task) apart h = grind (arith, has live o p (lock_key lock task) apart)
+refusal_on-Without share live clock o p (Hold domain) apart h = grind (arith, counts live o p (hold_key domain) apart)
+refusal_on-Without share live clock o p (DropHold domain) apart h = grind (arith, has live o p (hold_key domain) apart)
+refusal_on-Without share live clock o p (Work handler arg) apart h = grind (arith, counts live o p work_key apart)
+refusal_on-Without share live clock o p Taken apart h = front live o p (find_last (has_key work_key) live) apart refl h
+refusal_on-Without share live clock o p (Mask task) apart h = grind (arith, has live o p (mask_key task) apart)
+refusal_on-Without share live clock o p (Unmask task) apart h = grind (arith, has live o p (mask_key task) apart)
+refusal_on-Without share live clock o p (Clock now) apart h = h
 
 -- an owner that is not the kernel leaves the clock
 clock_kept : (o by : ℕ) (u : Update) (before : ℕ) → o ≢ 0 → eqb by o ≡ true → is_proper by u ≡ true → clock_after u before ≡ before
@@ -92,13 +92,13 @@ IsProper-Without (e ∷ h) o proper =
     ]
 
 -- the history without one owner's entries is lawful
-pub IsLawful-Without : (h : History) (o : ℕ) → o ≢ 0 → IsProper h → IsLawful h → IsLawful (Without h o)
-IsLawful-Without [] o some proper l = tt
-IsLawful-Without (e ∷ h) o some proper l =
-    elim (is_owner o e) as (λ b. is_owner o e ≡ b → IsLawful (cond (not b) (e ∷ Without h o) (Without h o))) [
-      | true ↦ λ is. IsLawful-Without h o some proper.1 l.1
+pub IsLawful-Without : (share : ℕ) (h : History) (o : ℕ) → o ≢ 0 → IsProper h → IsLawful share h → IsLawful share (Without h o)
+IsLawful-Without share [] o some proper l = tt
+IsLawful-Without share (e ∷ h) o some proper l =
+    elim (is_owner o e) as (λ b. is_owner o e ≡ b → IsLawful share (cond (not b) (e ∷ Without h o) (Without h o))) [
+      | true ↦ λ is. IsLawful-Without share h o some proper.1 l.1
       | false ↦ λ is. (
-        rw (live_of-Without h o, clock_of-Without h o some proper.1) (refusal_on-Without (live_of h) (clock_of h) o e.owner e.update is l.0),
-        IsLawful-Without h o some proper.1 l.1,
+        rw (live_of-Without h o, clock_of-Without h o some proper.1) (refusal_on-Without share (live_of h) (clock_of h) o e.owner e.update is l.0),
+        IsLawful-Without share h o some proper.1 l.1,
       )
     ] refl

@@ -44,54 +44,56 @@ abbrev pub unless_owner : ℕ → Option Entry → Option Refusal
 unless_owner owner None = Some Bad
 unless_owner owner (Some e) = cond (is_owner owner e) None (Some Bad)
 
--- why an owner's update is refused where these entries are live and the clock is so, or None where it is accepted
-abbrev pub refusal_on : List Entry → ℕ → ℕ → Update → Option Refusal
-refusal_on live clock owner (Grant layout n image) = cond (has_room (granted live owner) layout n) None (Some NoRoom)
-refusal_on live clock owner (Free base) = free_refusal (find (has_base base) (granted live owner))
-refusal_on live clock owner (Line line handler) =
-    cond (is_below 64 line) (cond (list_any (has_key (line_key line)) live) (Some Busy) None) (Some Bad)
-refusal_on live clock owner (FreeLine line) = cond (list_any (is_of owner (line_key line)) live) None (Some Bad)
-refusal_on live clock owner (Ports base n) =
+-- why an owner's update is refused where as many owners as the share may hold a line, these entries are live and the clock is so, or None where it is accepted
+abbrev pub refusal_on : ℕ → List Entry → ℕ → ℕ → Update → Option Refusal
+refusal_on share live clock owner (Grant layout n image) = cond (has_room (granted live owner) layout n) None (Some NoRoom)
+refusal_on share live clock owner (Free base) = free_refusal (find (has_base base) (granted live owner))
+refusal_on share live clock owner (Line line handler) =
+    cond (is_below 64 line)
+    (cond (list_any (is_of owner (line_key line)) live || not (ltb (count_by (has_key (line_key line)) live) share)) (Some Busy) None)
+    (Some Bad)
+refusal_on share live clock owner (FreeLine line) = cond (list_any (is_of owner (line_key line)) live) None (Some Bad)
+refusal_on share live clock owner (Ports base n) =
     cond (is_range base n)
     (cond (list_any (meets base n) live) (Some Busy) (cond (ltb (count_by (is_of_kind owner OfPorts) live) 32) None (Some Full)))
     (Some Bad)
-refusal_on live clock owner (DropPorts base n) = cond (list_any (is_of owner (ports_key base n)) live) None (Some Bad)
-refusal_on live clock owner (Device id) =
+refusal_on share live clock owner (DropPorts base n) = cond (list_any (is_of owner (ports_key base n)) live) None (Some Bad)
+refusal_on share live clock owner (Device id) =
     cond (is_below 1024 id)
     (cond (list_any (has_key (device_key id)) live) (Some Busy) (cond (ltb (count_by (is_of_kind owner OfDevices) live) 32) None (Some Full)))
     (Some Bad)
-refusal_on live clock owner (DelDevice id) = cond (list_any (is_of owner (device_key id)) live) None (Some Bad)
-refusal_on live clock owner (Param key value) =
+refusal_on share live clock owner (DelDevice id) = cond (list_any (is_of owner (device_key id)) live) None (Some Bad)
+refusal_on share live clock owner (Param key value) =
     cond (is_below 256 key)
     (cond (list_any (is_of owner (param_key key)) live || ltb (count_by (is_of_kind owner OfParams) live) 32) None (Some Full))
     (Some Bad)
-refusal_on live clock owner (ClearParam key) = cond (list_any (is_of owner (param_key key)) live) None (Some Bad)
-refusal_on live clock owner (Timer id due handler arg) =
+refusal_on share live clock owner (ClearParam key) = cond (list_any (is_of owner (param_key key)) live) None (Some Bad)
+refusal_on share live clock owner (Timer id due handler arg) =
     cond (is_below 256 id)
     (cond (list_any (is_of owner (timer_key id)) live || ltb (count_by (is_of_kind owner OfTimers) live) 64) None (Some Full))
     (Some Bad)
-refusal_on live clock owner (DelTimer id) = cond (list_any (is_of owner (timer_key id)) live) None (Some Bad)
-refusal_on live clock owner (Fired id) = cond (list_any (is_of owner (timer_key id)) live) None (Some Bad)
-refusal_on live clock owner (Lock lock task) = cond (is_below 64 lock) (held_by (find (is_lock lock) live)) (Some Bad)
-refusal_on live clock owner (Unlock lock task) =
+refusal_on share live clock owner (DelTimer id) = cond (list_any (is_of owner (timer_key id)) live) None (Some Bad)
+refusal_on share live clock owner (Fired id) = cond (list_any (is_of owner (timer_key id)) live) None (Some Bad)
+refusal_on share live clock owner (Lock lock task) = cond (is_below 64 lock) (held_by (find (is_lock lock) live)) (Some Bad)
+refusal_on share live clock owner (Unlock lock task) =
     cond (is_below 64 lock) (cond (list_any (is_of owner (lock_key lock task)) live) None (Some Unheld)) (Some Bad)
-refusal_on live clock owner (Hold domain) =
+refusal_on share live clock owner (Hold domain) =
     cond (is_below 64 domain) (cond (ltb (count_by (is_of owner (hold_key domain)) live) 8) None (Some Full)) (Some Bad)
-refusal_on live clock owner (DropHold domain) = cond (list_any (is_of owner (hold_key domain)) live) None (Some Bad)
-refusal_on live clock owner (Work handler arg) = cond (ltb (count_by (is_of owner work_key) live) 64) None (Some Full)
-refusal_on live clock owner Taken = unless_owner owner (find_last (has_key work_key) live)
-refusal_on live clock owner (Mask task) = cond (list_any (is_of owner (mask_key task)) live) (Some Busy) None
-refusal_on live clock owner (Unmask task) = cond (list_any (is_of owner (mask_key task)) live) None (Some Unheld)
-refusal_on live clock owner (Clock now) = cond (ltb now clock) (Some Bad) None
+refusal_on share live clock owner (DropHold domain) = cond (list_any (is_of owner (hold_key domain)) live) None (Some Bad)
+refusal_on share live clock owner (Work handler arg) = cond (ltb (count_by (is_of owner work_key) live) 64) None (Some Full)
+refusal_on share live clock owner Taken = unless_owner owner (find_last (has_key work_key) live)
+refusal_on share live clock owner (Mask task) = cond (list_any (is_of owner (mask_key task)) live) (Some Busy) None
+refusal_on share live clock owner (Unmask task) = cond (list_any (is_of owner (mask_key task)) live) None (Some Unheld)
+refusal_on share live clock owner (Clock now) = cond (ltb now clock) (Some Bad) None
 
 -- why an owner's update is refused after a history, or None where the history allows it
-abbrev pub refusal : History → ℕ → Update → Option Refusal
-refusal h owner update = refusal_on (live_of h) (clock_of h) owner update
+abbrev pub refusal : ℕ → History → ℕ → Update → Option Refusal
+refusal share h owner update = refusal_on share (live_of h) (clock_of h) owner update
 
 -- each entry is allowed by the entries before it
-abbrev pub IsLawful : History → Type 0
-IsLawful [] = Unit {0}
-IsLawful (e ∷ h) = (refusal h e.owner e.update ≡ None) × IsLawful h
+abbrev pub IsLawful : ℕ → History → Type 0
+IsLawful share [] = Unit {0}
+IsLawful share (e ∷ h) = (refusal share h e.owner e.update ≡ None) × IsLawful share h
 
 -- what the kernel itself may ask for, which is owner 0 with the one activity of task 0
 abbrev pub is_of_kernel : Update → Bool

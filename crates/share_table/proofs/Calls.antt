@@ -16,8 +16,7 @@ use Rattle.sd_base.specs.Numbers.{number_of}
 use Rattle.sd_base.specs.History.{Entry, lock_key, mask_key, hold_key, work_key, has_key}
 use Rattle.sd_base.specs.Sound.{IsSound}
 use Rattle.share_table.proofs.Readings.{masked-is, held-is, domain-is}
-use Rattle.sd_base.specs.Part.{Serves, Loses, Forgets}
-use Rattle.share_table.specs.Part.{ForgetsLawful}
+use Rattle.sd_base.specs.Part.{Serves, Loses}
 use Rattle.share_table.specs.declared.queue.Work.{Work}
 use Rattle.share_table.specs.declared.answers.ShareRefusal.{ShareRefusal}
 use Rattle.share_table.specs.Answers.{refusal_of_share}
@@ -27,14 +26,14 @@ use Rattle.share_table.specs.Holds.{holds_at, HoldsHolds, IsCounts, held_by_all}
 use Rattle.share_table.specs.Queue.{is_owned, put_refusal, IsQueue, others}
 use Rattle.share_table.specs.Rows.{ShareRows}
 use Rattle.share_table.specs.Table.{HoldsShares, TakesFront}
-use Rattle.share_table.proofs.Locked.{unlock_unheld, unlock_done, loses_lock, IsFreedTo, freed_end, forgets_locks}
+use Rattle.share_table.proofs.Locked.{unlock_unheld, unlock_done, loses_lock, IsFreedTo, freed_end}
 use Rattle.share_table.proofs.Masked as masks
 use Rattle.share_table.proofs.Held as holds
 use Rattle.share_table.proofs.Masked.{serves_unmask, loses_mask}
 use Rattle.share_table.proofs.Held.{hold_full, hold_done, drop_bad, drop_done, loses_hold}
-use Rattle.share_table.proofs.Queued.{work_of, serves_queue, loses_work, forgets_work}
+use Rattle.share_table.proofs.Queued.{work_of, serves_queue, loses_work}
 use Rattle.share_table.proofs.Turns.{IsQueue-push, room_for}
-use Rattle.share_table.proofs.Parts.{with_locks, with_masks, with_holds, with_work, takes_front, lose_lock, lose_mask, lose_hold, lose_work, forget_all}
+use Rattle.share_table.proofs.Parts.{with_locks, with_masks, with_holds, with_work, takes_front, lose_lock, lose_mask, lose_hold, lose_work}
 
 cast : (z : ℤ) → SFits w32 z → to_z w32 (of_z w32 z) ≡ z
 cast z fits = simp to_z-of_z
@@ -206,12 +205,6 @@ hold_call v locks masks holds new work owner z answer view fits s =
     subst (λ (w : ShareRows). Serves HoldsShares w owner (Hold z) answer (rows_of locks masks new work)) view
     (with_holds (rows_of locks masks holds work) new owner (Hold z) answer refl refl refl (subst (λ (y : ℤ). Serves HoldsHolds holds owner (Hold y) answer new) (cast z fits) s))
 
-pub drop_hold_call : (v : ShareRows) (locks : List (Option Who)) (masks : List Bool) (holds new : List ℕ) (work : List Work) (owner : ℕ) (z : ℤ) (answer : Option Refusal) → rows_of locks masks holds work ≡ v → SFits w32 z →
-    Serves HoldsHolds holds owner (DropHold (to_z w32 (of_z w32 z))) answer new → Serves HoldsShares v owner (DropHold z) answer (rows_of locks masks new work)
-drop_hold_call v locks masks holds new work owner z answer view fits s =
-    subst (λ (w : ShareRows). Serves HoldsShares w owner (DropHold z) answer (rows_of locks masks new work)) view
-    (with_holds (rows_of locks masks holds work) new owner (DropHold z) answer refl refl refl (subst (λ (y : ℤ). Serves HoldsHolds holds owner (DropHold y) answer new) (cast z fits) s))
-
 on_ok : (r : Result (Unit {0}) ShareRefusal) (P : Type 0) → OnOk r P → refusal_of_share r ≡ None → P
 on_ok (Ok x) P h ok = h
 on_ok (Err e) P h ok = cc
@@ -257,32 +250,13 @@ remove_work_call v locks masks holds work new owner view is =
     subst (λ (w : ShareRows). Loses HoldsShares w owner work_key (rows_of locks masks holds new)) view
     (lose_work (rows_of locks masks holds work) new owner work_key refl refl refl (loses_work work new owner is))
 
--- what an owner leaves behind
-pub forget_locks_at : (v locks new : List (Option Who)) (owner n : ℕ) → locks ≡ v → length locks ≡ 64 → n ≡ 64 → IsFreedTo owner n locks new → ForgetsLawful HoldsLocks v owner new
-forget_locks_at v locks new owner n view long all to =
-    subst (λ (w : List (Option Who)). ForgetsLawful HoldsLocks w owner new) view (forgets_locks owner locks new (freed_end owner n locks new long all to))
-
 pub clear_mask_at : (owner n p : ℕ) (old new : List Bool) → owner ≤ 4 → n < 9 → p ≡ owner * 9 + n → masks.IsClearedTo owner n old new → masks.IsClearedTo owner (n + 1) old (set new p false)
 clear_mask_at owner n p old new few short at to =
     subst (λ (m : ℕ). masks.IsClearedTo owner (n + 1) old (set new m false)) (sym at) (masks.cleared_more owner n old new few short to)
 
-pub forget_masks_at : (v held new : List Bool) (owner n : ℕ) → held ≡ v → n ≡ 9 → masks.IsClearedTo owner n held new → Forgets HoldsMasks v owner new
-forget_masks_at v held new owner n view all to =
-    subst (λ (w : List Bool). Forgets HoldsMasks w owner new) view (masks.forgets_masks owner held new (masks.cleared_end owner n held new all to))
-
 pub clear_hold_at : (owner n p : ℕ) (old new : List ℕ) → owner ≤ 4 → n < 64 → p ≡ owner * 64 + n → holds.IsClearedTo owner n old new → holds.IsClearedTo owner (n + 1) old (set new p 0)
 clear_hold_at owner n p old new few short at to =
     subst (λ (m : ℕ). holds.IsClearedTo owner (n + 1) old (set new m 0)) (sym at) (holds.cleared_more owner n old new few short to)
-
-pub forget_holds_at : (v counts new : List ℕ) (owner n : ℕ) → counts ≡ v → n ≡ 64 → holds.IsClearedTo owner n counts new → Forgets HoldsHolds v owner new
-forget_holds_at v counts new owner n view all to =
-    subst (λ (w : List ℕ). Forgets HoldsHolds w owner new) view (holds.forgets_holds owner counts new (holds.cleared_end owner n counts new all to))
-
-pub forget_call : (v : ShareRows) (locks nl : List (Option Who)) (held nm : List Bool) (counts nh : List ℕ) (work nw : List Work) (owner : ℕ) → rows_of locks held counts work ≡ v →
-    ForgetsLawful HoldsLocks locks owner nl → Forgets HoldsMasks held owner nm → Forgets HoldsHolds counts owner nh → nw ≡ others owner work → ForgetsLawful HoldsShares v owner (rows_of nl nm nh nw)
-forget_call v locks nl held nm counts nh work nw owner view l m h w =
-    subst (λ (r : ShareRows). ForgetsLawful HoldsShares r owner (rows_of nl nm nh nw)) view
-    (forget_all (rows_of locks held counts work) (rows_of nl nm nh nw) owner l m h (forgets_work owner work nw w))
 
 -- what is read
 pub masked_call : (v : ShareRows) (locks : List (Option Who)) (held : List Bool) (counts : List ℕ) (work : List Work) (r : Bool) → rows_of locks held counts work ≡ v → r ≡ any_held held →
@@ -300,3 +274,9 @@ pub domain_call : (v : ShareRows) (locks : List (Option Who)) (held : List Bool)
 domain_call v locks held counts work z r view fits long is live all =
     let here : HoldsHolds counts live = subst (λ (w : ShareRows). HoldsHolds w.holds live) (sym view) all.holds in
     is ∙ ap (held_by_all counts) (cast z fits) ∙ domain-is counts live z long here
+
+pub drop_hold_call : (v : ShareRows) (locks : List (Option Who)) (masks : List Bool) (holds new : List ℕ) (work : List Work) (owner : ℕ) (z : ℤ) (answer : Option Refusal) → rows_of locks masks holds work ≡ v → SFits w32 z →
+    Serves HoldsHolds holds owner (DropHold (to_z w32 (of_z w32 z))) answer new → Serves HoldsShares v owner (DropHold z) answer (rows_of locks masks new work)
+drop_hold_call v locks masks holds new work owner z answer view fits s =
+    subst (λ (w : ShareRows). Serves HoldsShares w owner (DropHold z) answer (rows_of locks masks new work)) view
+    (with_holds (rows_of locks masks holds work) new owner (DropHold z) answer refl refl refl (subst (λ (y : ℤ). Serves HoldsHolds holds owner (DropHold y) answer new) (cast z fits) s))

@@ -9,7 +9,7 @@ use Rattle.sd_base.specs.declared.history.Refusal.TheVariants.{Bad, Full}
 use Rattle.sd_base.specs.declared.history.Update.TheVariants.{Hold, DropHold}
 use Rattle.sd_base.specs.Selection.{without_first, is_below}
 use Rattle.sd_base.specs.History.{Entry, OfHolds, Key, same_resource, key_of, hold_key, entry, is_of, after_entry, live_of, Without}
-use Rattle.sd_base.specs.Part.{Serves, Loses, Forgets}
+use Rattle.sd_base.specs.Part.{Serves, Loses}
 use Rattle.sd_base.proofs.Counting.{count_by-cons}
 use Rattle.sd_base.proofs.Single.{count_by-none, count_by-some}
 use Rattle.sd_base.proofs.SoundLive.{lawful_sound}
@@ -73,7 +73,7 @@ apart_holds : (owner place o : ℕ) (domain : ℤ) → is_place owner place o do
 apart_holds owner place o domain other x h = grind (arith, nat_tests, ints)
 
 pub hold_bad : (counts : List ℕ) (owner : ℕ) (domain : ℤ) → is_below 64 domain ≡ false → Serves HoldsHolds counts owner (Hold domain) (Some Bad) counts
-hold_bad counts owner domain out h lawful proper holds =
+hold_bad counts owner domain out share h lawful proper holds =
     (ap (λ b. cond b (cond (ltb (count_by (is_of owner (hold_key domain)) (live_of h)) 8) None (Some Full)) (Some Bad)) (sym out), λ ok. cc)
 
 hold-refusal : (counts : List ℕ) (live : List Entry) (owner place : ℕ) → is_below 64 (pos place) ≡ true → HoldsHolds counts live →
@@ -85,7 +85,7 @@ hold-refusal counts live owner place fits holds =
 
 pub hold_full : (counts : List ℕ) (owner place : ℕ) → is_below 64 (pos place) ≡ true → 8 ≤ get_or counts (owner * 64 + place) 0 →
     Serves HoldsHolds counts owner (Hold (pos place)) (Some Full) counts
-hold_full counts owner place fits many h lawful proper holds =
+hold_full counts owner place fits many share h lawful proper holds =
     let test : ltb (get_or counts (owner * 64 + place) 0) 8 ≡ false = grind (arith, nat_tests) in
     (sym (hold-refusal counts (live_of h) owner place fits holds ∙ ap (λ b. cond b None (Some Full)) test), λ ok. cc)
 
@@ -122,7 +122,7 @@ one_more counts live owner place long few short fits holds o domain =
 
 pub hold_done : (counts : List ℕ) (owner place : ℕ) → length counts ≡ 320 → owner ≤ 4 → place < 64 → is_below 64 (pos place) ≡ true → get_or counts (owner * 64 + place) 0 < 8 →
     Serves HoldsHolds counts owner (Hold (pos place)) None (set counts (owner * 64 + place) (get_or counts (owner * 64 + place) 0 + 1))
-hold_done counts owner place long few short fits room h lawful proper holds =
+hold_done counts owner place long few short fits room share h lawful proper holds =
     let test : ltb (get_or counts (owner * 64 + place) 0) 8 ≡ true = grind (arith, nat_tests) in (
       sym (hold-refusal counts (live_of h) owner place fits holds ∙ ap (λ b. cond b None (Some Full)) test),
       λ ok. one_more counts (live_of h) owner place long few short fits holds,
@@ -142,7 +142,7 @@ drop-refusal counts live owner domain holds =
     ap (λ b. cond b None (Some Bad)) (any-counted (is_of owner (hold_key domain)) live ∙ ap (λ n. ltb 0 n) (sym (holds owner domain)))
 
 pub drop_bad : (counts : List ℕ) (owner : ℕ) (domain : ℤ) → holds_at counts owner domain ≡ 0 → Serves HoldsHolds counts owner (DropHold domain) (Some Bad) counts
-drop_bad counts owner domain none h lawful proper holds =
+drop_bad counts owner domain none share h lawful proper holds =
     (sym (drop-refusal counts (live_of h) owner domain holds ∙ ap (λ n. cond (ltb 0 n) None (Some Bad)) none), λ ok. cc)
 
 one_fewer : (counts : List ℕ) (live : List Entry) (owner place : ℕ) → length counts ≡ 320 → owner ≤ 4 → place < 64 → is_below 64 (pos place) ≡ true → 0 < get_or counts (owner * 64 + place) 0 → HoldsHolds counts live →
@@ -173,11 +173,11 @@ loses_hold counts owner place long few short fits some live sound holds o domain
 
 pub drop_done : (counts : List ℕ) (owner place : ℕ) → length counts ≡ 320 → owner ≤ 4 → place < 64 → is_below 64 (pos place) ≡ true → 0 < get_or counts (owner * 64 + place) 0 →
     Serves HoldsHolds counts owner (DropHold (pos place)) None (set counts (owner * 64 + place) (get_or counts (owner * 64 + place) 0 - 1))
-drop_done counts owner place long few short fits some h lawful proper holds =
+drop_done counts owner place long few short fits some share h lawful proper holds =
     let old : holds_at counts owner (pos place) ≡ get_or counts (owner * 64 + place) 0 = ap (λ b. cond b (get_or counts (owner * 64 + place) 0) 0) fits in
     let test : ltb 0 (holds_at counts owner (pos place)) ≡ true = grind (arith, nat_tests) in (
       sym (drop-refusal counts (live_of h) owner (pos place) holds ∙ ap (λ b. cond b None (Some Bad)) test),
-      λ ok. loses_hold counts owner place long few short fits some (live_of h) (lawful_sound h proper lawful) holds,
+      λ ok. loses_hold counts owner place long few short fits some (live_of h) (lawful_sound share h proper lawful) holds,
     )
 
 -- What dropping an owner leaves.
@@ -211,16 +211,6 @@ others_clear owner o (pos k) old new apart clear =
       | false ↦ λ is. refl
       | true ↦ λ is. clear.others (o * 64 + k) (λ domain h. (let below : k < 64 = grind (arith, nat_tests) in let differ : o ≢ owner = grind (arith, nat_tests) in λ e. absurd (differ (omega arith))))
     ] refl
-
-pub forgets_holds : (owner : ℕ) (old new : List ℕ) → IsCleared owner old new → Forgets HoldsHolds old owner new
-forgets_holds owner old new clear h holds o domain =
-    subst (λ live. holds_at new o domain ≡ count_by (is_of o (hold_key domain)) live) (sym (live_of-Without h owner))
-    (elim (eqb o owner) as (λ b. eqb o owner ≡ b → holds_at new o domain ≡ count_by (is_of o (hold_key domain)) (Without (live_of h) owner)) [
-      | true ↦ λ is. (
-          let same : owner ≡ o = grind (arith, nat_tests) in
-          subst (λ n. holds_at new n domain ≡ count_by (is_of n (hold_key domain)) (Without (live_of h) owner)) same (own_clear owner domain old new clear ∙ sym (own-dropped owner domain (live_of h))))
-      | false ↦ λ is. others_clear owner o domain old new is clear ∙ holds o domain ∙ sym (other-kept owner o domain (live_of h) is)
-    ] refl)
 
 -- The loop that clears an owner's counts, after n of them.
 pub record IsClearedTo (owner n : ℕ) (old new : List ℕ) : Type 0 where

@@ -18,7 +18,6 @@ use Rattle.sd_base.specs.Part.{Serves, Loses}
 use Rattle.sd_base.proofs.Counting.{count_by-cons, count_by-filter_le}
 use Rattle.sd_base.proofs.SoundLive.{lawful_sound}
 use Rattle.sd_base.proofs.Live.{live_of-Without}
-use Rattle.share_table.specs.Part.{ForgetsLawful}
 use Rattle.share_table.specs.Locks.{lock_at, holder_of, HoldsLocks, is_who, unless_owner's}
 use Rattle.share_table.proofs.OtherKinds.{Within, find-after, find-without, find-apart, find-none, list_any-first, list_any-found_none}
 
@@ -47,12 +46,12 @@ lock-refusal locks live lock fits holds =
     ap (λ b. cond b (held_by (find (is_lock lock) live)) (Some Bad)) fits ∙ refusal_by-held_by (find (is_lock lock) live) ∙ ap refusal_by (sym (holds lock))
 
 pub serves_bad : (locks : List (Option Who)) (owner task : ℕ) (lock : ℤ) → is_below 64 lock ≡ false → Serves HoldsLocks locks owner (Lock lock task) (Some Bad) locks
-serves_bad locks owner task lock out h lawful proper holds =
+serves_bad locks owner task lock out share h lawful proper holds =
     (ap (λ b. cond b (held_by (find (is_lock lock) (live_of h))) (Some Bad)) (sym out), λ ok. cc)
 
 pub serves_held : (locks : List (Option Who)) (owner task place : ℕ) (who : Who) → is_below 64 (pos place) ≡ true → get_or locks place None ≡ Some who →
     Serves HoldsLocks locks owner (Lock (pos place) task) (Some (HeldBy who)) locks
-serves_held locks owner task place who fits held h lawful proper holds =
+serves_held locks owner task place who fits held share h lawful proper holds =
     (ap refusal_by (sym held) ∙ sym (lock-refusal locks (live_of h) (pos place) fits holds), λ ok. cc)
 
 is_lock-entry : (owner task place : ℕ) (lock : ℤ) → is_lock lock (entry owner (Lock (pos place) task)) ≡ int_eq (pos place) lock
@@ -88,7 +87,7 @@ taken_at locks owner task place (pos k) live long short holds =
 
 pub serves_lock : (locks : List (Option Who)) (owner task place : ℕ) → length locks ≡ 64 → place < 64 → is_below 64 (pos place) ≡ true → get_or locks place None ≡ None →
     Serves HoldsLocks locks owner (Lock (pos place) task) None (set locks place (Some (record { owner = owner; task = task })))
-serves_lock locks owner task place long short fits free h lawful proper holds = (
+serves_lock locks owner task place long short fits free share h lawful proper holds = (
   ap refusal_by (sym free) ∙ sym (lock-refusal locks (live_of h) (pos place) fits holds),
   λ ok lock. taken_at locks owner task place lock (live_of h) long short holds,
 )
@@ -141,14 +140,14 @@ pub holds-it : (locks : List (Option Who)) (owner task place : ℕ) (live : List
 holds-it locks owner task place live sound holds = holds-it_of locks owner task place live sound holds (find (is_lock (pos place)) live) refl
 
 pub unlock_bad : (locks : List (Option Who)) (owner task : ℕ) (lock : ℤ) → is_below 64 lock ≡ false → Serves HoldsLocks locks owner (Unlock lock task) (Some Bad) locks
-unlock_bad locks owner task lock out h lawful proper holds =
+unlock_bad locks owner task lock out share h lawful proper holds =
     (ap (λ b. cond b (cond (list_any (is_of owner (lock_key lock task)) (live_of h)) None (Some Unheld)) (Some Bad)) (sym out), λ ok. cc)
 
 pub unlock_unheld : (locks : List (Option Who)) (owner task place : ℕ) → is_below 64 (pos place) ≡ true →
     passes (is_who (record { owner = owner; task = task })) (get_or locks place None) ≡ false → Serves HoldsLocks locks owner (Unlock (pos place) task) (Some Unheld) locks
-unlock_unheld locks owner task place fits other h lawful proper holds = (
+unlock_unheld locks owner task place fits other share h lawful proper holds = (
   sym (ap (λ b. cond b (cond (list_any (is_of owner (lock_key (pos place) task)) (live_of h)) None (Some Unheld)) (Some Bad)) fits
-      ∙ ap (λ b. cond b None (Some Unheld)) (holds-it locks owner task place (live_of h) (lawful_sound h proper lawful) holds ∙ other)),
+      ∙ ap (λ b. cond b None (Some Unheld)) (holds-it locks owner task place (live_of h) (lawful_sound share h proper lawful) holds ∙ other)),
   λ ok. cc,
 )
 
@@ -178,10 +177,10 @@ loses_lock locks owner task place long short own live sound holds lock =
 
 pub unlock_done : (locks : List (Option Who)) (owner task place : ℕ) → length locks ≡ 64 → place < 64 → is_below 64 (pos place) ≡ true →
     passes (is_who (record { owner = owner; task = task })) (get_or locks place None) ≡ true → Serves HoldsLocks locks owner (Unlock (pos place) task) None (set locks place None)
-unlock_done locks owner task place long short fits own h lawful proper holds = (
+unlock_done locks owner task place long short fits own share h lawful proper holds = (
   sym (ap (λ b. cond b (cond (list_any (is_of owner (lock_key (pos place) task)) (live_of h)) None (Some Unheld)) (Some Bad)) fits
-      ∙ ap (λ b. cond b None (Some Unheld)) (holds-it locks owner task place (live_of h) (lawful_sound h proper lawful) holds ∙ own)),
-  λ ok. loses_lock locks owner task place long short own (live_of h) (lawful_sound h proper lawful) holds,
+      ∙ ap (λ b. cond b None (Some Unheld)) (holds-it locks owner task place (live_of h) (lawful_sound share h proper lawful) holds ∙ own)),
+  λ ok. loses_lock locks owner task place long short own (live_of h) (lawful_sound share h proper lawful) holds,
 )
 
 -- What dropping an owner leaves.
@@ -217,11 +216,6 @@ find-dropped owner p (e ∷ live) few =
 freed_all : (owner : ℕ) (old new : List (Option Who)) → IsFreed owner old new → (lock : ℤ) → lock_at new lock ≡ unless_owner's owner (lock_at old lock)
 freed_all owner old new freed (pos k) = freed.at k
 freed_all owner old new freed (negsuc k) = refl
-
-pub forgets_locks : (owner : ℕ) (old new : List (Option Who)) → IsFreed owner old new → ForgetsLawful HoldsLocks old owner new
-forgets_locks owner old new freed h lawful proper holds lock =
-    freed_all owner old new freed lock ∙ ap (unless_owner's owner) (holds lock)
-    ∙ sym (ap (λ live. holder_of (find (is_lock lock) live)) (live_of-Without h owner) ∙ find-dropped owner (is_lock lock) (live_of h) ((lawful_sound h proper lawful).locks lock))
 
 -- The loop that frees an owner's locks, after n of them.
 pub record IsFreedTo (owner n : ℕ) (old new : List (Option Who)) : Type 0 where

@@ -7,7 +7,7 @@ use Rattle.sd_base.specs.declared.history.Update.TheVariants.{Mask, Unmask}
 use Rattle.sd_base.specs.Selection.{without_first}
 use Rattle.sd_base.specs.History.{Entry, OfMasks, Key, same_resource, key_of, mask_key, entry, is_of, after_entry, live_of, Without}
 use Rattle.sd_base.specs.Sound.{IsSound}
-use Rattle.sd_base.specs.Part.{Serves, Loses, Forgets}
+use Rattle.sd_base.specs.Part.{Serves, Loses}
 use Rattle.sd_base.proofs.SoundLive.{lawful_sound}
 use Rattle.sd_base.proofs.Live.{live_of-Without}
 use Rattle.sd_base.proofs.Single.{count_by-without_first_one}
@@ -61,12 +61,12 @@ gone owner task live sound =
     (count_by-without_first_one (is_of owner (mask_key task)) live (sound.singles owner (mask_key task) refl))
 
 pub serves_busy : (masks : List Bool) (owner task : ℕ) → mask_at masks owner task ≡ true → Serves HoldsMasks masks owner (Mask task) (Some Busy) masks
-serves_busy masks owner task held h lawful proper holds =
+serves_busy masks owner task held share h lawful proper holds =
     (ap (λ b. cond b (Some Busy) None) (sym held ∙ holds owner task), λ ok. cc)
 
 pub serves_mask : (masks : List Bool) (owner task : ℕ) → length masks ≡ 45 → owner ≤ 4 → task ≤ 8 → mask_at masks owner task ≡ false →
     Serves HoldsMasks masks owner (Mask task) None (set masks (owner * 9 + task) true)
-serves_mask masks owner task long few tasks free h lawful proper holds = (
+serves_mask masks owner task long few tasks free share h lawful proper holds = (
   ap (λ b. cond b (Some Busy) None) (sym free ∙ holds owner task),
   λ ok o t. elim (eqb owner o && eqb task t) as (λ b. (eqb owner o && eqb task t) ≡ b → mask_at (set masks (owner * 9 + task) true) o t ≡ list_any (is_of o (mask_key t)) (entry owner (Mask task) ∷ live_of h)) [
     | true ↦ λ is. (
@@ -85,7 +85,7 @@ serves_mask masks owner task long few tasks free h lawful proper holds = (
 )
 
 pub serves_unheld : (masks : List Bool) (owner task : ℕ) → mask_at masks owner task ≡ false → Serves HoldsMasks masks owner (Unmask task) (Some Unheld) masks
-serves_unheld masks owner task free h lawful proper holds =
+serves_unheld masks owner task free share h lawful proper holds =
     (ap (λ b. cond b None (Some Unheld)) (sym free ∙ holds owner task), λ ok. cc)
 
 pub loses_mask : (masks : List Bool) (owner task : ℕ) → length masks ≡ 45 → owner ≤ 4 → task ≤ 8 → Loses HoldsMasks masks owner (mask_key task) (set masks (owner * 9 + task) false)
@@ -104,9 +104,9 @@ loses_mask masks owner task long few tasks live sound holds o t =
 
 pub serves_unmask : (masks : List Bool) (owner task : ℕ) → length masks ≡ 45 → owner ≤ 4 → task ≤ 8 → mask_at masks owner task ≡ true →
     Serves HoldsMasks masks owner (Unmask task) None (set masks (owner * 9 + task) false)
-serves_unmask masks owner task long few tasks held h lawful proper holds = (
+serves_unmask masks owner task long few tasks held share h lawful proper holds = (
   ap (λ b. cond b None (Some Unheld)) (sym held ∙ holds owner task),
-  λ ok. loses_mask masks owner task long few tasks (live_of h) (lawful_sound h proper lawful) holds,
+  λ ok. loses_mask masks owner task long few tasks (live_of h) (lawful_sound share h proper lawful) holds,
 )
 
 -- What dropping an owner leaves.
@@ -137,16 +137,6 @@ others_clear owner o t old new apart clear =
       | false ↦ λ is. refl
       | true ↦ λ is. clear.others (o * 9 + t) (λ task h. (let below : t < 9 = grind (arith, nat_tests) in let differ : o ≢ owner = grind (arith, nat_tests) in λ e. absurd (differ (omega arith))))
     ] refl
-
-pub forgets_masks : (owner : ℕ) (old new : List Bool) → IsCleared owner old new → Forgets HoldsMasks old owner new
-forgets_masks owner old new clear h holds o t =
-    subst (λ live. mask_at new o t ≡ list_any (is_of o (mask_key t)) live) (sym (live_of-Without h owner))
-    (elim (eqb o owner) as (λ b. eqb o owner ≡ b → mask_at new o t ≡ list_any (is_of o (mask_key t)) (Without (live_of h) owner)) [
-      | true ↦ λ is. (
-          let same : owner ≡ o = grind (arith, nat_tests) in
-          subst (λ n. mask_at new n t ≡ list_any (is_of n (mask_key t)) (Without (live_of h) owner)) same (own_clear owner t old new clear ∙ sym (own-dropped owner t (live_of h))))
-      | false ↦ λ is. others_clear owner o t old new is clear ∙ holds o t ∙ sym (other-kept owner o t (live_of h) is)
-    ] refl)
 
 -- The loop that clears an owner's masks, after n of them.
 pub record IsClearedTo (owner n : ℕ) (old new : List Bool) : Type 0 where

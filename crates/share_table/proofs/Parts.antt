@@ -5,9 +5,8 @@ use Rattle.sd_base.specs.declared.history.Refusal.{Refusal}
 use Rattle.sd_base.specs.declared.history.Update.{Update}
 use Rattle.sd_base.specs.declared.history.Update.TheVariants.{Taken}
 use Rattle.sd_base.specs.History.{OfLocks, OfMasks, OfHolds, OfWork, Key, same_resource, key_of, entry, live_of}
-use Rattle.sd_base.specs.Part.{Serves, Loses, Forgets}
+use Rattle.sd_base.specs.Part.{Serves, Loses}
 use Rattle.share_table.specs.declared.queue.Work.{Work}
-use Rattle.share_table.specs.Part.{ForgetsLawful}
 use Rattle.share_table.specs.Locks.{HoldsLocks}
 use Rattle.share_table.specs.Masks.{HoldsMasks}
 use Rattle.share_table.specs.Holds.{HoldsHolds}
@@ -22,8 +21,8 @@ use Rattle.share_table.proofs.Queued.{work-after, work-without, serves_take}
 pub with_locks : (v : ShareRows) (new : List (Option Who)) (owner : ℕ) (u : Update) (answer : Option Refusal) →
     same_resource (key_of u).resource OfMasks ≡ false → same_resource (key_of u).resource OfHolds ≡ false → same_resource (key_of u).resource OfWork ≡ false →
     Serves HoldsLocks v.locks owner u answer new → Serves HoldsShares v owner u answer (record v { locks = new })
-with_locks v new owner u answer m d w serves h lawful proper holds =
-    let s = serves h lawful proper holds.locks in (
+with_locks v new owner u answer m d w serves share h lawful proper holds =
+    let s = serves share h lawful proper holds.locks in (
       s.0,
       λ ok. record {
         locks = s.1 ok;
@@ -36,8 +35,8 @@ with_locks v new owner u answer m d w serves h lawful proper holds =
 pub with_masks : (v : ShareRows) (new : List Bool) (owner : ℕ) (u : Update) (answer : Option Refusal) →
     same_resource (key_of u).resource OfLocks ≡ false → same_resource (key_of u).resource OfHolds ≡ false → same_resource (key_of u).resource OfWork ≡ false →
     Serves HoldsMasks v.masks owner u answer new → Serves HoldsShares v owner u answer (record v { masks = new })
-with_masks v new owner u answer l d w serves h lawful proper holds =
-    let s = serves h lawful proper holds.masks in (
+with_masks v new owner u answer l d w serves share h lawful proper holds =
+    let s = serves share h lawful proper holds.masks in (
       s.0,
       λ ok. record {
         locks = locks-after v.locks (entry owner u) (live_of h) l holds.locks;
@@ -50,8 +49,8 @@ with_masks v new owner u answer l d w serves h lawful proper holds =
 pub with_holds : (v : ShareRows) (new : List ℕ) (owner : ℕ) (u : Update) (answer : Option Refusal) →
     same_resource (key_of u).resource OfLocks ≡ false → same_resource (key_of u).resource OfMasks ≡ false → same_resource (key_of u).resource OfWork ≡ false →
     Serves HoldsHolds v.holds owner u answer new → Serves HoldsShares v owner u answer (record v { holds = new })
-with_holds v new owner u answer l m w serves h lawful proper holds =
-    let s = serves h lawful proper holds.holds in (
+with_holds v new owner u answer l m w serves share h lawful proper holds =
+    let s = serves share h lawful proper holds.holds in (
       s.0,
       λ ok. record {
         locks = locks-after v.locks (entry owner u) (live_of h) l holds.locks;
@@ -64,8 +63,8 @@ with_holds v new owner u answer l m w serves h lawful proper holds =
 pub with_work : (v : ShareRows) (new : List Work) (owner : ℕ) (u : Update) (answer : Option Refusal) →
     same_resource (key_of u).resource OfLocks ≡ false → same_resource (key_of u).resource OfMasks ≡ false → same_resource (key_of u).resource OfHolds ≡ false →
     Serves HoldsWork v.work owner u answer new → Serves HoldsShares v owner u answer (record v { work = new })
-with_work v new owner u answer l m d serves h lawful proper holds =
-    let s = serves h lawful proper holds.work in (
+with_work v new owner u answer l m d serves share h lawful proper holds =
+    let s = serves share h lawful proper holds.work in (
       s.0,
       λ ok. record {
         locks = locks-after v.locks (entry owner u) (live_of h) l holds.locks;
@@ -112,13 +111,4 @@ lose_work v new owner key l m d loses live sound holds = record {
   masks = masks-without v.masks owner key live m holds.masks;
   holds = holds-without v.holds owner key live d holds.holds;
   work = loses live sound holds.work;
-}
-
-pub forget_all : (old new : ShareRows) (owner : ℕ) → ForgetsLawful HoldsLocks old.locks owner new.locks → Forgets HoldsMasks old.masks owner new.masks →
-    Forgets HoldsHolds old.holds owner new.holds → Forgets HoldsWork old.work owner new.work → ForgetsLawful HoldsShares old owner new
-forget_all old new owner locks masks holds work h lawful proper all = record {
-  locks = locks h lawful proper all.locks;
-  masks = masks h all.masks;
-  holds = holds h all.holds;
-  work = work h all.work;
 }

@@ -11,7 +11,7 @@ use Rattle.sd_base.specs.declared.history.Update.TheVariants.{Work as Queues, Ta
 use Rattle.sd_base.specs.Selection.{without_first, without_last, find_last, passes}
 use Rattle.sd_base.specs.History.{Entry, OfWork, Key, same_resource, key_of, work_key, live_key, entry, is_owner, has_key, is_of, after_entry, live_of}
 use Rattle.sd_base.specs.Allowed.{unless_owner}
-use Rattle.sd_base.specs.Part.{Serves, Loses, Forgets}
+use Rattle.sd_base.specs.Part.{Serves, Loses}
 use Rattle.sd_base.proofs.Counting.{count_by-reverse, reverse-cons}
 use Rattle.sd_base.proofs.Removal.{reverse-without_last}
 use Rattle.sd_base.proofs.Rows.{filter_map-without_first, filter_map-without_last, count_by-filter_map, filter_map-filter}
@@ -63,7 +63,7 @@ count-queued owner items live holds =
 
 pub serves_queue : (old new : List Work) (owner handler : ℕ) (arg : ℤ) (answer : Option Refusal) → answer ≡ put_refusal old owner →
     (answer ≡ None → new ≡ old ++ work_of owner handler arg ∷ []) → Serves HoldsWork old owner (Queues handler arg) answer new
-serves_queue old new owner handler arg answer is put h lawful proper holds = (
+serves_queue old new owner handler arg answer is put share h lawful proper holds = (
   is ∙ ap (λ n. cond (ltb n 64) None (Some Full)) (sym (count-queued owner old (live_of h) holds)),
   λ ok. put ok ∙ ap (λ items. items ++ work_of owner handler arg ∷ []) holds ∙ sym (reverse-cons (work_of owner handler arg) (filter_map work_row (live_of h))),
 )
@@ -167,7 +167,7 @@ first_goes : (work : Work) (rest : List Work) → without_first (is_owned work.o
 first_goes work rest = (let own : is_owned work.owner work ≡ true = grind (arith, nat_tests) in ap (λ b. cond b rest (work ∷ without_first (is_owned work.owner) rest)) own)
 
 pub serves_take : (items rest : List Work) (work : Work) → items ≡ work ∷ rest → Serves HoldsWork items work.owner Taken None rest
-serves_take items rest work is h lawful proper holds =
+serves_take items rest work is share h lawful proper holds =
     let front : reverse (filter_map work_row (live_of h)) ≡ work ∷ rest = sym holds ∙ is in
     let first = oldest (live_of h) work (head-reverse (filter_map work_row (live_of h)) work rest front) in
     let own : is_owner work.owner first.0 ≡ true = (let same_owner = first.2 in grind (arith, nat_tests)) in (
@@ -200,9 +200,3 @@ pub loses_work : (old new : List Work) (owner : ℕ) → new ≡ without_last (i
 loses_work old new owner is live sound holds =
     is ∙ ap (without_last (is_owned owner)) holds
     ∙ sym (ap reverse (filter_map-without_first work_row (is_of owner work_key) (is_owned owner) (same owner) live) ∙ reverse-without_first (is_owned owner) (filter_map work_row live))
-
-pub forgets_work : (owner : ℕ) (old new : List Work) → new ≡ others owner old → Forgets HoldsWork old owner new
-forgets_work owner old new is h holds =
-    is ∙ ap (others owner) holds ∙ sym (reverse-filter (λ work. not (is_owned owner work)) (filter_map work_row (live_of h)))
-    ∙ ap reverse (sym (filter_map-filter work_row (λ e. not (is_owner owner e)) (λ work. not (is_owned owner work)) (kept owner) (live_of h)))
-    ∙ ap (λ live. reverse (filter_map work_row live)) (sym (live_of-Without h owner))

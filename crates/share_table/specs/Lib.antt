@@ -1,5 +1,4 @@
 pub mod Answers
-pub mod Part
 pub mod Locks
 pub mod Masks
 pub mod Holds

@@ -2,7 +2,7 @@
 ghost use Rattle.std.specs.Prelude.{◌≡◌, ◌<◌, ◌≤◌, [], length, OnErr};
 ghost use Rattle.sd_base.specs.declared.history.Update.TheVariants.{Hold, DropHold};
 ghost use Rattle.sd_base.specs.History.{hold_key};
-ghost use Rattle.sd_base.specs.Part.{Serves, Loses, Forgets};
+ghost use Rattle.sd_base.specs.Part.{Serves, Loses};
 ghost use Rattle.share_table.specs.Answers.{refusal_of_share};
 ghost use Rattle.share_table.specs.Holds.{HoldsHolds, holds_at, held_by_all};
 
@@ -104,16 +104,6 @@ impl Holds {
             let place = usize::from(owner) * DOMAINS + usize::from(domain);
             let count = self.counts[place];
             self.counts[place] = count - 1;
-        }
-    }
-
-    /// Takes all holds of an owner away.
-    pub fn drop_owner(&mut self, owner: u8)
-        requires { owner ≤ 4 }
-        ensures { Forgets HoldsHolds self.old owner self.new }
-    {
-        for domain in 0..DOMAINS {
-            self.counts[usize::from(owner) * DOMAINS + domain] = 0;
         }
     }
 }

@@ -4,7 +4,6 @@ ghost use Rattle.sd_base.specs.declared.history.Update.TheVariants.{Lock, Unlock
 ghost use Rattle.sd_base.specs.History.{lock_key};
 ghost use Rattle.sd_base.specs.Selection.{passes};
 ghost use Rattle.sd_base.specs.Part.{Serves, Loses};
-ghost use Rattle.share_table.specs.Part.{ForgetsLawful};
 ghost use Rattle.share_table.specs.Locks.{HoldsLocks, lock_at, refusal_of_lock, refusal_of_unlock, has_holder, is_who, unless_owner's};
 
 use crate::answers::{LockOut, UnlockOut};
@@ -97,15 +96,6 @@ impl Locks {
             self.holders[usize::from(place)] = None;
         }
     }
-
-    /// Frees all locks of an owner's activities.
-    pub fn drop_owner(&mut self, owner: u8)
-        ensures { ForgetsLawful HoldsLocks self.old owner self.new }
-    {
-        for place in 0..64 {
-            self.holders[place] = unless_owners(self.holders[place], owner);
-        }
-    }
 }
 
 /// Whether this activity holds a lock with that holder.
@@ -115,15 +105,5 @@ fn is_held_by(holder: &Option<Who>, who: Who) -> bool
     match holder {
         Some(by) => by.owner == who.owner && by.task == who.task,
         None => false,
-    }
-}
-
-/// The holder of a lock once an owner's activities hold none.
-fn unless_owners(holder: Option<Who>, owner: u8) -> Option<Who>
-    ensures { result ≡ unless_owner's owner holder }
-{
-    match holder {
-        Some(by) if by.owner == owner => None,
-        _ => holder,
     }
 }

@@ -3,7 +3,7 @@ ghost use Rattle.std.specs.Prelude.{◌≡◌, ◌≤◌, false, true, [], cond,
 ghost use Rattle.sd_base.specs.declared.history.Refusal.TheVariants.{Busy, Unheld};
 ghost use Rattle.sd_base.specs.declared.history.Update.TheVariants.{Mask, Unmask};
 ghost use Rattle.sd_base.specs.History.{mask_key};
-ghost use Rattle.sd_base.specs.Part.{Serves, Loses, Forgets};
+ghost use Rattle.sd_base.specs.Part.{Serves, Loses};
 ghost use Rattle.share_table.specs.Masks.{HoldsMasks, mask_at, any_held};
 
 use sd_base::Who;
@@ -89,15 +89,5 @@ impl Masks {
         ensures { Loses HoldsMasks self.old who.owner (mask_key who.task) self.new }
     {
         self.held[usize::from(who.owner) * ACTIVITIES + usize::from(who.task)] = false;
-    }
-
-    /// Takes all masks of an owner's activities away.
-    pub fn drop_owner(&mut self, owner: u8)
-        requires { owner ≤ 4 }
-        ensures { Forgets HoldsMasks self.old owner self.new }
-    {
-        for task in 0..ACTIVITIES {
-            self.held[usize::from(owner) * ACTIVITIES + task] = false;
-        }
     }
 }

@@ -124,32 +124,13 @@ impl Queue {
         requires { list_any (is_owned owner) self.old ≡ true }
         ensures gone { self.new ≡ without_last (is_owned owner) self.old }
         ensures steps { steps.new ≡ steps.old + length self.old }
+        ensures few { steps.new ≤ steps.old + 256 }
     {
         let newest = self.newest_of(owner);
         for place in 0..self.items.len() {
             turn(&mut self.items, place != newest);
             steps.tick();
         }
-    }
-
-    /// Takes all items of an owner out.
-    pub fn drop_owner(&mut self, owner: u8)
-        ensures { self.new ≡ others owner self.old }
-    {
-        for turns in 0..self.items.len() {
-            let keep = is_others(&self.items, owner);
-            turn(&mut self.items, keep);
-        }
-    }
-}
-
-/// Whether the front is another owner's.
-fn is_others(items: &HeapCircularBuffer<Work>, owner: u8) -> bool
-    ensures { result ≡ passes (λ work. not (is_owned owner work)) (slice_get items.now.items 0) }
-{
-    match items.front() {
-        Some(work) => work.owner != owner,
-        None => false,
     }
 }
 

@@ -1,18 +1,17 @@
 //! The table of what activities share.
 ghost use Rattle.std.specs.Prelude.{◌≡◌, ◌+◌, ◌<◌, ◌≤◌, ◌≢◌, [], true, false, cond, length, slice_get, count_by, IfOk, OnErr, None, Some, List};
-ghost use Rattle.std.specs.List.{list_any};
+ghost use Rattle.std.specs.List.{list_any, find};
 ghost use Rattle.sd_base.specs.declared.history.Refusal.TheVariants.{Busy, Unheld as NotHeld};
 ghost use Rattle.sd_base.specs.declared.history.Update.TheVariants.{Lock, Unlock, Hold, DropHold, Mask, Unmask, Work as Queues};
-ghost use Rattle.sd_base.specs.History.{Entry, lock_key, mask_key, hold_key, work_key, has_key};
-ghost use Rattle.sd_base.specs.Sound.{IsSound};
+ghost use Rattle.sd_base.specs.History.{lock_key, mask_key, hold_key, work_key, has_key, is_of, live_of};
+ghost use Rattle.sd_base.specs.Allowed.{is_lock, is_proper};
 ghost use Rattle.sd_base.specs.Part.{Serves, Loses};
-ghost use Rattle.share_table.specs.Part.{ForgetsLawful};
 ghost use Rattle.share_table.specs.Answers.{refusal_of_share};
-ghost use Rattle.share_table.specs.Locks.{lock_at, refusal_of_lock, refusal_of_unlock, has_holder, takes_lock};
+ghost use Rattle.share_table.specs.Locks.{lock_at, holder_of, refusal_of_lock, refusal_of_unlock, has_holder, takes_lock};
 ghost use Rattle.share_table.specs.Masks.{mask_at, any_held, is_mask};
 ghost use Rattle.share_table.specs.Holds.{holds_at, held_by_all};
 ghost use Rattle.share_table.specs.Queue.{is_owned};
-ghost use Rattle.share_table.specs.Table.{HoldsShares, TakesFront};
+ghost use Rattle.share_table.specs.Table.{HoldsShares, TakesFront, OfEachHistory, queue_of};
 
 use crate::answers::{LockOut, ShareRefusal, UnlockOut};
 use crate::holds::Holds;
@@ -56,6 +55,7 @@ impl Shares {
 
     /// Takes a lock for an activity, where no activity holds it.
     pub fn lock(&mut self, who: Who, k: i32) -> LockOut
+        requires { is_proper who.owner (Lock k who.task) ≡ true }
         ensures serves { Serves HoldsShares self.old who.owner (Lock k who.task) (refusal_of_lock result) self.new }
         ensures kept { refusal_of_lock result ≢ None → self.new ≡ self.old }
     {
@@ -64,6 +64,7 @@ impl Shares {
 
     /// Lets go of a lock that the activity holds.
     pub fn unlock(&mut self, who: Who, k: i32) -> UnlockOut
+        requires { is_proper who.owner (Unlock k who.task) ≡ true }
         ensures serves { Serves HoldsShares self.old who.owner (Unlock k who.task) (refusal_of_unlock result) self.new }
         ensures kept { refusal_of_unlock result ≢ None → self.new ≡ self.old }
     {
@@ -111,8 +112,7 @@ impl Shares {
 
     /// Holds interrupts off for an activity; false where it does so already.
     pub fn mask(&mut self, who: Who) -> bool
-        requires owner { who.owner ≤ 4 }
-        requires task { who.task ≤ 8 }
+        requires { is_proper who.owner (Mask who.task) ≡ true }
         ensures serves { Serves HoldsShares self.old who.owner (Mask who.task) (cond result None (Some Busy)) self.new }
         ensures kept { result ≡ false → self.new ≡ self.old }
     {
@@ -121,8 +121,7 @@ impl Shares {
 
     /// Lets interrupts in again for an activity; false where it does not hold them off.
     pub fn unmask(&mut self, who: Who) -> bool
-        requires owner { who.owner ≤ 4 }
-        requires task { who.task ≤ 8 }
+        requires { is_proper who.owner (Unmask who.task) ≡ true }
         ensures serves { Serves HoldsShares self.old who.owner (Unmask who.task) (cond result None (Some NotHeld)) self.new }
         ensures kept { result ≡ false → self.new ≡ self.old }
     {
@@ -132,14 +131,15 @@ impl Shares {
     /// Whether any activity holds interrupts off.
     pub fn masked(&self) -> bool
         ensures value { result ≡ any_held self.now.masks }
-        ensures reads { (live : List Entry) → HoldsShares self.now live → result ≡ list_any is_mask live }
+        ensures reads { OfEachHistory self.now (λ h. result ≡ list_any is_mask (live_of h)) }
     {
         self.masks.any()
     }
 
     /// The activity that holds a lock. None where nobody does, or there is no such lock.
     pub fn lock_holder(&self, k: i32) -> Option<Who>
-        ensures { result ≡ lock_at self.now.locks k }
+        ensures value { result ≡ lock_at self.now.locks k }
+        ensures reads { OfEachHistory self.now (λ h. result ≡ holder_of (find (is_lock k) (live_of h))) }
     {
         self.locks.holder(k)
     }
@@ -147,7 +147,7 @@ impl Shares {
     /// Whether the activity holds any lock.
     pub fn holds_lock(&self, who: Who) -> bool
         ensures value { result ≡ has_holder who self.now.locks }
-        ensures reads { (live : List Entry) → IsSound live → HoldsShares self.now live → result ≡ list_any (takes_lock who) live }
+        ensures reads { OfEachHistory self.now (λ h. result ≡ list_any (takes_lock who) (live_of h)) }
     {
         self.locks.any_of(who)
     }
@@ -156,7 +156,8 @@ impl Shares {
     pub fn holds_mask(&self, who: Who) -> bool
         requires owner { who.owner ≤ 4 }
         requires task { who.task ≤ 8 }
-        ensures { result ≡ mask_at self.now.masks who.owner who.task }
+        ensures value { result ≡ mask_at self.now.masks who.owner who.task }
+        ensures reads { OfEachHistory self.now (λ h. result ≡ list_any (is_of who.owner (mask_key who.task)) (live_of h)) }
     {
         self.masks.holds(who)
     }
@@ -164,14 +165,15 @@ impl Shares {
     /// The holds of all owners on a domain, 0 where there is no such domain.
     pub fn domain_holds(&self, domain: i32) -> u32
         ensures value { result ≡ held_by_all self.now.holds domain }
-        ensures reads { (live : List Entry) → HoldsShares self.now live → result ≡ count_by (has_key (hold_key domain)) live }
+        ensures reads { OfEachHistory self.now (λ h. result ≡ count_by (has_key (hold_key domain)) (live_of h)) }
     {
         self.holds.held(domain)
     }
 
     /// The front of the queue. None where it is empty.
     pub fn front(&self) -> Option<Work>
-        ensures { result ≡ slice_get self.now.work 0 }
+        ensures value { result ≡ slice_get self.now.work 0 }
+        ensures reads { OfEachHistory self.now (λ h. result ≡ slice_get (queue_of h) 0) }
     {
         self.work.get(0)
     }
@@ -228,18 +230,8 @@ impl Shares {
         requires { list_any (is_owned owner) self.old.work ≡ true }
         ensures removed { Loses HoldsShares self.old owner work_key self.new }
         ensures steps { steps.new ≡ steps.old + length self.old.work }
+        ensures few { steps.new ≤ steps.old + 256 }
     {
         self.work.remove_newest(owner, steps);
-    }
-
-    /// Takes all that an owner's activities hold away, and all its items.
-    pub fn drop_rows(&mut self, owner: u8)
-        requires { owner ≤ 4 }
-        ensures { ForgetsLawful HoldsShares self.old owner self.new }
-    {
-        self.locks.drop_owner(owner);
-        self.masks.drop_owner(owner);
-        self.holds.drop_owner(owner);
-        self.work.drop_owner(owner);
     }
 }

@@ -34,7 +34,7 @@ fn masks_are_apart(rt: HostRuntime) -> Result<(), Fail> {
     assert!(rt; shares.unmask(first));
     assert!(rt; !shares.unmask(first));
     assert!(rt; shares.masked());
-    shares.drop_rows(4);
+    assert!(rt; shares.unmask(second));
     assert!(rt; !shares.masked());
     Ok(())
 }
@@ -72,7 +72,9 @@ fn the_queue_keeps_its_order(rt: HostRuntime) -> Result<(), Fail> {
     });
     assert_eq!(rt; shares.front(), front);
     assert_eq!(rt; shares.take_work(), front);
-    shares.drop_rows(1);
+    for _ in 0..63 {
+        assert_eq!(rt; shares.take_work().is_some(), true);
+    }
     assert_eq!(rt; shares.queued(1), None);
     let last = Some(Work {
         owner: 2,

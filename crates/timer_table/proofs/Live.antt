@@ -8,7 +8,7 @@ use Rattle.sd_base.specs.declared.history.Refusal.{Refusal}
 use Rattle.sd_base.specs.declared.history.Refusal.TheVariants.{Bad, Full}
 use Rattle.sd_base.specs.Selection.{without_first, is_below, passes}
 use Rattle.sd_base.specs.History.{Entry, OfTimers, Key, same_resource, key_of, timer_key, live_key, entry, is_owner, is_of, is_of_kind, after_entry, live_of, Without}
-use Rattle.sd_base.specs.Part.{Serves, Loses, Forgets}
+use Rattle.sd_base.specs.Part.{Serves, Loses}
 use Rattle.sd_base.proofs.Rows.{filter_map-without_first, list_any-filter_map, count_by-filter_map, filter_map-filter}
 use Rattle.sd_base.proofs.Live.{rows-after_entry_other, rows-without_other, live_of-Without}
 use Rattle.timer_table.specs.declared.fired.Fired.{Fired}
@@ -82,7 +82,7 @@ set-refusal owner id live =
 
 pub serves_set : (old new : List Fired) (owner : ℕ) (id : ℤ) (due handler : ℕ) (arg : ℤ) (answer : Option Refusal) → answer ≡ set_refusal old owner id →
     (answer ≡ None → new ≡ with_timer (row_of owner id due handler arg) old) → Serves HoldsTimers old owner (Timer id due handler arg) answer new
-serves_set old new owner id due handler arg answer is set h lawful proper holds =
+serves_set old new owner id due handler arg answer is set share h lawful proper holds =
     let here : set_refusal old owner id ≡ set_refusal (timers_of (live_of h)) owner id = ap (λ rows. set_refusal rows owner id) holds in (
       is ∙ here ∙ sym (set-refusal owner id (live_of h)),
       λ ok. set ok ∙ ap (with_timer (row_of owner id due handler arg)) holds ∙ ap (insert_row (row_of owner id due handler arg)) (sym (timers-without owner id (live_of h))),
@@ -90,21 +90,17 @@ serves_set old new owner id due handler arg answer is set h lawful proper holds 
 
 pub serves_stop : (old new : List Fired) (owner : ℕ) (id : ℤ) (answer : Option Refusal) → answer ≡ del_refusal old owner id → (answer ≡ None → new ≡ without_timer owner id old) →
     Serves HoldsTimers old owner (DelTimer id) answer new
-serves_stop old new owner id answer is gone h lawful proper holds = (
+serves_stop old new owner id answer is gone share h lawful proper holds = (
   is ∙ ap (λ rows. del_refusal rows owner id) holds ∙ ap (λ b. cond b None (Some Bad)) (sym (timers-any owner id (live_of h))),
   λ ok. gone ok ∙ ap (without_timer owner id) holds ∙ sym (timers-without owner id (live_of h)),
 )
 
 pub serves_fire : (old new : List Fired) (owner : ℕ) (id : ℤ) (answer : Option Refusal) → answer ≡ del_refusal old owner id → (answer ≡ None → new ≡ without_timer owner id old) →
     Serves HoldsTimers old owner (Fires id) answer new
-serves_fire old new owner id answer is gone h lawful proper holds = serves_stop old new owner id answer is gone h lawful proper holds
+serves_fire old new owner id answer is gone share h lawful proper holds = serves_stop old new owner id answer is gone share h lawful proper holds
 
 pub loses_timer : (old new : List Fired) (owner : ℕ) (id : ℤ) → new ≡ without_timer owner id old → Loses HoldsTimers old owner (timer_key id) new
 loses_timer old new owner id is live sound holds = is ∙ ap (without_timer owner id) holds ∙ sym (timers-without owner id live)
-
-pub forgets_owner : (old new : List Fired) (owner : ℕ) → new ≡ without_owner owner old → Forgets HoldsTimers old owner new
-forgets_owner old new owner is h holds =
-    is ∙ ap (without_owner owner) holds ∙ sym (timers-Without owner (live_of h)) ∙ ap timers_of (sym (live_of-Without h owner))
 
 -- another kind's update leaves the timers, and so does another kind's removal
 pub timers-other : (e : Entry) (live : List Entry) → same_resource (key_of e.update).resource OfTimers ≡ false → timers_of (after_entry e live) ≡ timers_of live

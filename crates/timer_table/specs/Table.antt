@@ -4,7 +4,8 @@ use Rattle.std.specs.List.{list_any, filter, Contains}
 use Rattle.sd_base.specs.declared.history.Refusal.{Refusal}
 use Rattle.sd_base.specs.declared.history.Refusal.TheVariants.{Bad, Full}
 use Rattle.sd_base.specs.Selection.{is_below, without_first}
-use Rattle.sd_base.specs.History.{Entry}
+use Rattle.sd_base.specs.History.{Entry, History, live_of}
+use Rattle.sd_base.specs.Allowed.{IsLawful, IsProper}
 use Rattle.timer_table.specs.declared.fired.Fired.{Fired}
 use Rattle.timer_table.specs.declared.refusal.TimerRefusal.{TimerRefusal}
 use Rattle.timer_table.specs.declared.refusal.TimerRefusal.TheVariants as timers
@@ -37,6 +38,10 @@ pub record IsTable (rows : List Fired) : Type 0 where
 -- the table holds its part of what is live: its timers are the live ones, by owner and id
 abbrev pub HoldsTimers : List Fired → List Entry → Type 0
 HoldsTimers rows live = rows ≡ timers_of live
+
+-- what is said of every lawful history, whatever its share, of which the table holds its part
+abbrev pub OfEachHistory : List Fired → (History → Type 0) → Type 0
+OfEachHistory t P = (share : ℕ) (h : History) → IsLawful share h → IsProper h → HoldsTimers t (live_of h) → P h
 
 -- the refusal that an answer names
 abbrev pub refusal_as : TimerRefusal → Refusal

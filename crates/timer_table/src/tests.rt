@@ -53,7 +53,7 @@ fn timers_fire_by_due_then_owner_then_id(rt: HostRuntime) -> Result<(), Fail> {
     }
     assert_eq!(rt; timers.next_due(7), None);
     assert_eq!(rt; timers.del_timer(1, 3), Err(TimerRefusal::Bad));
-    timers.drop_rows(2);
+    assert_eq!(rt; timers.del_timer(2, 5), Ok(()));
     assert_eq!(rt; timers.timer(0), None);
     Ok(())
 }

@@ -2,13 +2,13 @@
 ghost use Rattle.std.specs.Prelude.{◌≡◌, ◌+◌, ◌≤◌, [], true, false, length, slice_get, IfOk, OnOk, OnErr, MatchOption};
 ghost use Rattle.std.specs.List.{list_any, filter};
 ghost use Rattle.sd_base.specs.declared.history.Update.TheVariants.{Timer, DelTimer, Fired as Fires};
-ghost use Rattle.sd_base.specs.History.{timer_key};
-ghost use Rattle.sd_base.specs.Part.{Serves, Loses, Forgets};
-ghost use Rattle.timer_table.specs.Order.{is_timer, is_due, next_of};
-ghost use Rattle.timer_table.specs.Table.{HoldsTimers, IsNext, set_refusal, del_refusal, refusal_of, with_timer, without_timer, without_owner};
+ghost use Rattle.sd_base.specs.History.{timer_key, live_of};
+ghost use Rattle.sd_base.specs.Part.{Serves, Loses};
+ghost use Rattle.timer_table.specs.Order.{is_timer, is_due, next_of, timers_of};
+ghost use Rattle.timer_table.specs.Table.{HoldsTimers, OfEachHistory, IsNext, set_refusal, del_refusal, refusal_of, with_timer, without_timer};
 
 use crate::Fired;
-use crate::edits::{next, put, take_all_out, take_out};
+use crate::edits::{next, put, take_out};
 use crate::refusal::TimerRefusal;
 use crate::rows::Rows;
 use sd_base::{Memory, Steps};
@@ -90,6 +90,7 @@ impl Timers {
     /// The timer to fire next of those that are due by `now`: of least due, then owner, then id. None where none is due.
     pub fn next_due(&self, now: u32) -> Option<Fired>
         ensures value { result ≡ next_of now self.now }
+        ensures reads { OfEachHistory self.now (λ h. result ≡ next_of now (timers_of (live_of h))) }
         ensures next { MatchOption result (list_any (is_due now) self.now ≡ false) (IsNext now self.now) }
     {
         next(&self.rows, now)
@@ -118,13 +119,5 @@ impl Timers {
     {
         take_out(&mut self.rows, owner, id);
         steps.tick();
-    }
-
-    /// Takes all of an owner's timers away.
-    pub fn drop_rows(&mut self, owner: u8)
-        ensures forgets { Forgets HoldsTimers self.old owner self.new }
-        ensures others { self.new ≡ without_owner owner self.old }
-    {
-        take_all_out(&mut self.rows, owner);
     }
 }

@@ -1,23 +1,21 @@
 -- How many entries of each kind an owner can have live, and how many in all.
-use Rattle.std.proofs.Common.{◌≡◌, ℕ, ◌+◌, ◌*◌, ◌<◌, ◌≤◌, Bool, true, false, cond, not, ◌&&◌, eqb, ltb, List, [], ◌∷◌, length, map, ℤ, pos, negsuc, Option, Some, None, refl, ap, sym, ◌∙◌, subst, arith}
-use Rattle.std.proofs.lemmas.Bool.Decides.{nat_tests, Decides-int_eq}
+use Rattle.std.proofs.Common.{◌≡◌, ℕ, ◌+◌, ◌*◌, ◌<◌, ◌≤◌, Bool, true, false, cond, not, ◌&&◌, eqb, ltb, List, [], ◌∷◌, length, ℤ, pos, negsuc, None, refl, ap, sym, subst, arith}
+use Rattle.std.proofs.lemmas.Bool.Decides.{nat_tests}
 use Rattle.std.proofs.lemmas.Int.{ints}
 use Rattle.std.proofs.lemmas.List.{length-map}
 use Rattle.std.specs.List.{list_any, filter, find, count_by}
-use Rattle.std.specs.Ordering.{int_eq}
-use Rattle.sd_base.specs.declared.history.BlockState.TheVariants.{Image, Live, Freed}
+use Rattle.sd_base.specs.declared.history.BlockState.TheVariants.{Freed}
 use Rattle.sd_base.specs.declared.history.Update.{Update}
-use Rattle.sd_base.specs.declared.history.Update.TheVariants.{Grant, Free, Line, FreeLine, Ports, DropPorts, Device, DelDevice, Param, ClearParam, Timer, DelTimer, Fired, Lock, Unlock, Hold, DropHold, Work, Taken, Mask, Unmask, Clock}
-use Rattle.sd_base.specs.Selection.{is_below}
-use Rattle.sd_base.specs.History.{Entry, History, entry, Key, Resource, OfBlocks, OfFrees, OfLines, OfPorts, OfDevices, OfParams, OfTimers, OfLocks, OfHolds, OfWork, OfMasks, OfNothing, same_resource, live_key, line_key, hold_key, mask_key, work_key, is_owner, is_of, is_of_kind, live_of, net_of}
-use Rattle.sd_base.specs.Blocks.{Block, blocks_after, with_state, has_base, is_image, is_freed, next_base, count_of, first_state, granted, has_room}
-use Rattle.sd_base.specs.Allowed.{is_lock, free_refusal, is_astray, is_proper, IsLawful, IsProper}
+use Rattle.sd_base.specs.declared.history.Update.TheVariants.{Grant, Free, Line, Lock, Hold, Work, Mask}
+use Rattle.sd_base.specs.History.{Entry, History, entry, Resource, OfBlocks, OfFrees, OfLines, OfPorts, OfDevices, OfParams, OfTimers, OfLocks, OfHolds, OfWork, OfMasks, OfNothing, same_resource, live_key, line_key, hold_key, mask_key, work_key, is_owner, is_of, is_of_kind, live_of, net_of}
+use Rattle.sd_base.specs.Blocks.{Block, blocks_after, with_state, has_base, is_freed, next_base, count_of, first_state, granted, has_room}
+use Rattle.sd_base.specs.Allowed.{is_lock, free_refusal, is_astray, IsLawful, IsProper}
 use Rattle.sd_base.specs.Sound.{BlockAllowed, BlocksAllowed, IsSound}
 use Rattle.sd_base.proofs.Counting.{count_by-cons, count_below, count_below-all, count_below-le}
 use Rattle.sd_base.proofs.Removal.{list_any-wider}
 use Rattle.sd_base.proofs.Single.{count_by-none}
 use Rattle.sd_base.proofs.SoundLive.{lawful_sound}
-use Rattle.update_tracker.specs.NetPart.{in_front, is_block_update, is_block_entry, note_item, if_own, block_items, note_after, notes_of}
+use Rattle.update_tracker.specs.NetPart.{in_front, is_block_update, is_block_entry, note_item, block_items, note_after, notes_of}
 use Rattle.update_tracker.proofs.Caps.{KeepsCaps, keeps_caps, improper, all_proper, is_gone, none_gone}
 use Rattle.update_tracker.proofs.NetShown.{eqb_itself, length-block_items}
 
@@ -313,19 +311,19 @@ notes_sum o (e ∷ live) =
       notes_sum o live,
     )
 
-pub few_notes : (h : History) (o : ℕ) → IsLawful h → IsProper h → length (notes_of o (live_of h)) ≤ 873
-few_notes h o lawful proper =
-    let sound = lawful_sound h proper lawful in
-    let caps = keeps_caps h lawful o in
+pub few_notes : (share : ℕ) (h : History) (o : ℕ) → IsLawful share h → IsProper h → length (notes_of o (live_of h)) ≤ 873
+few_notes share h o lawful proper =
+    let sound = lawful_sound share h proper lawful in
+    let caps = keeps_caps share h lawful o in
     let ports = caps.ports in
     let devices = caps.devices in
     let params = caps.params in
     let timers = caps.timers in
     omega (arith, notes_sum o (live_of h), few_lines o (live_of h) sound, few_locks o (live_of h) sound, few_holds o (live_of h) sound caps, few_work o (live_of h) caps, few_masks o (live_of h) sound (all_proper h proper))
 
-pub few_block_items : (h : History) (o : ℕ) → IsLawful h → IsProper h → length (block_items o (live_of h)) ≤ 8192
-few_block_items h o lawful proper =
-    let sound = lawful_sound h proper lawful in
+pub few_block_items : (share : ℕ) (h : History) (o : ℕ) → IsLawful share h → IsProper h → length (block_items o (live_of h)) ≤ 8192
+few_block_items share h o lawful proper =
+    let sound = lawful_sound share h proper lawful in
     let few = few_blocks o (live_of h) sound.blocks in
     let blocks = few.0 in
     let frees = few.1 in
@@ -355,15 +353,15 @@ entries_sum o (e ∷ live) =
     )
 
 -- an owner has at most 9,065 entries in its net list
-pub net_is_short : (h : History) (o : ℕ) → IsLawful h → IsProper h → length (net_of h o) ≤ 9065
-net_is_short h o lawful proper =
+pub net_is_short : (share : ℕ) (h : History) (o : ℕ) → IsLawful share h → IsProper h → length (net_of h o) ≤ 9065
+net_is_short share h o lawful proper =
     omega (
       arith,
       length-map (filter (is_owner o) (live_of h)) (λ (e : Entry). e.update),
       length-within (is_owner o) (live_of h),
       entries_sum o (live_of h),
       count_by-none is_gone (live_of h) (none_gone h),
-      few_notes h o lawful proper,
-      few_block_items h o lawful proper,
+      few_notes share h o lawful proper,
+      few_block_items share h o lawful proper,
       length-block_items o (live_of h),
     )

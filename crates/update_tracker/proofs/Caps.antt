@@ -1,12 +1,11 @@
 -- In a lawful history an owner has no more live of a kind than the rules let it have.
-use Rattle.std.proofs.Common.{◌≡◌, ℕ, ◌+◌, ◌<◌, ◌≤◌, Bool, true, false, cond, not, ◌&&◌, ◌||◌, eqb, ltb, List, [], ◌∷◌, ℤ, Option, None, refl, ap, sym, ◌∙◌, subst, arith}
+use Rattle.std.proofs.Common.{◌≡◌, ℕ, ◌+◌, ◌<◌, ◌≤◌, Bool, true, false, cond, not, ◌||◌, eqb, ltb, List, [], ◌∷◌, ℤ, None, refl, ap, sym, subst, arith}
 use Rattle.std.proofs.lemmas.Bool.Decides.{nat_tests, Decides-int_eq}
 use Rattle.std.specs.List.{list_any, count_by}
-use Rattle.std.specs.Ordering.{int_eq}
 use Rattle.sd_base.specs.declared.history.Update.{Update}
-use Rattle.sd_base.specs.declared.history.Update.TheVariants.{Grant, Free, Line, FreeLine, Ports, DropPorts, Device, DelDevice, Param, ClearParam, Timer, DelTimer, Fired, Lock, Unlock, Hold, DropHold, Work, Taken, Mask, Unmask, Clock}
-use Rattle.sd_base.specs.Selection.{without_first, without_last}
-use Rattle.sd_base.specs.History.{Entry, History, entry, Key, Resource, OfPorts, OfDevices, OfParams, OfTimers, OfHolds, OfWork, OfNothing, same_resource, live_key, param_key, timer_key, hold_key, work_key, is_of, is_of_kind, Role, Begins, Replaces, Ends, EndsOldest, Passes, key_of, role_of, after_role, after_entry, live_of, clock_of}
+use Rattle.sd_base.specs.declared.history.Update.TheVariants.{FreeLine, Ports, DropPorts, Device, DelDevice, Param, ClearParam, Timer, DelTimer, Fired, Unlock, Hold, DropHold, Work, Taken, Unmask}
+use Rattle.sd_base.specs.Selection.{without_first}
+use Rattle.sd_base.specs.History.{Entry, History, entry, Key, Resource, OfPorts, OfDevices, OfParams, OfTimers, OfNothing, same_resource, live_key, param_key, timer_key, hold_key, work_key, is_of, is_of_kind, Role, Begins, Replaces, Ends, EndsOldest, Passes, key_of, role_of, after_role, after_entry, live_of, clock_of}
 use Rattle.sd_base.specs.Allowed.{refusal_on, IsLawful, is_proper, IsProper}
 use Rattle.sd_base.proofs.Counting.{count_by-cons}
 use Rattle.sd_base.proofs.Removal.{list_any-without_first, list_any-without_last, count_by-without_first, count_by-without_last}
@@ -62,17 +61,17 @@ kind_comes r resource owner o cap u live mine few =
       | false ↦ λ is. omega (arith, no_more (is_of_kind o resource) r (entry owner u) live (other_owner resource owner o u is))
     ] refl
 
-ports_after : (live : List Entry) (clock owner o : ℕ) (u : Update) → refusal_on live clock owner u ≡ None → count_by (is_of_kind o OfPorts) live ≤ 32 → count_by (is_of_kind o OfPorts) (after_entry (entry owner u) live) ≤ 32
-ports_after live clock owner o (Ports base n) ok few =
+ports_after : (share : ℕ) (live : List Entry) (clock owner o : ℕ) (u : Update) → refusal_on share live clock owner u ≡ None → count_by (is_of_kind o OfPorts) live ≤ 32 → count_by (is_of_kind o OfPorts) (after_entry (entry owner u) live) ≤ 32
+ports_after share live clock owner o (Ports base n) ok few =
     let room : count_by (is_of_kind owner OfPorts) live < 32 = grind (arith, nat_tests) in
     kind_comes Begins OfPorts owner o 32 (Ports base n) live (λ same. one_more (is_of_kind owner OfPorts) Begins (entry owner (Ports base n)) live 32 room) few
-ports_after live clock owner o u ok few = omega (arith, no_more (is_of_kind o OfPorts) (role_of u) (entry owner u) live refl)
+ports_after share live clock owner o u ok few = omega (arith, no_more (is_of_kind o OfPorts) (role_of u) (entry owner u) live refl)
 
-devices_after : (live : List Entry) (clock owner o : ℕ) (u : Update) → refusal_on live clock owner u ≡ None → count_by (is_of_kind o OfDevices) live ≤ 32 → count_by (is_of_kind o OfDevices) (after_entry (entry owner u) live) ≤ 32
-devices_after live clock owner o (Device id) ok few =
+devices_after : (share : ℕ) (live : List Entry) (clock owner o : ℕ) (u : Update) → refusal_on share live clock owner u ≡ None → count_by (is_of_kind o OfDevices) live ≤ 32 → count_by (is_of_kind o OfDevices) (after_entry (entry owner u) live) ≤ 32
+devices_after share live clock owner o (Device id) ok few =
     let room : count_by (is_of_kind owner OfDevices) live < 32 = grind (arith, nat_tests) in
     kind_comes Begins OfDevices owner o 32 (Device id) live (λ same. one_more (is_of_kind owner OfDevices) Begins (entry owner (Device id)) live 32 room) few
-devices_after live clock owner o u ok few = omega (arith, no_more (is_of_kind o OfDevices) (role_of u) (entry owner u) live refl)
+devices_after share live clock owner o u ok few = omega (arith, no_more (is_of_kind o OfDevices) (role_of u) (entry owner u) live refl)
 
 -- an owner's new value or timer, where it has the key already or is not full
 replaced : (resource : Resource) (key : Key) (owner cap : ℕ) (u : Update) (live : List Entry) → key.resource ≡ resource → key_of u ≡ key → (list_any (is_of owner key) live || ltb (count_by (is_of_kind owner resource) live) cap) ≡ true →
@@ -86,27 +85,27 @@ replaced resource key owner cap u live kind is ok few =
           omega (arith, count_by-cons (is_of_kind owner resource) (entry owner u) (without_first (is_of owner key) live), at_most_one (is_of_kind owner resource (entry owner u)), count_by-without_first (is_of owner key) (is_of_kind owner resource) live)
     ] refl)
 
-params_after : (live : List Entry) (clock owner o : ℕ) (u : Update) → refusal_on live clock owner u ≡ None → count_by (is_of_kind o OfParams) live ≤ 32 → count_by (is_of_kind o OfParams) (after_entry (entry owner u) live) ≤ 32
-params_after live clock owner o (Param key value) ok few =
+params_after : (share : ℕ) (live : List Entry) (clock owner o : ℕ) (u : Update) → refusal_on share live clock owner u ≡ None → count_by (is_of_kind o OfParams) live ≤ 32 → count_by (is_of_kind o OfParams) (after_entry (entry owner u) live) ≤ 32
+params_after share live clock owner o (Param key value) ok few =
     let room : (list_any (is_of owner (param_key key)) live || ltb (count_by (is_of_kind owner OfParams) live) 32) ≡ true = grind arith in
     kind_comes Replaces OfParams owner o 32 (Param key value) live
     (λ same. replaced OfParams (param_key key) owner 32 (Param key value) live refl refl room (subst (λ n. count_by (is_of_kind n OfParams) live ≤ 32) (sym same) few)) few
-params_after live clock owner o u ok few = omega (arith, no_more (is_of_kind o OfParams) (role_of u) (entry owner u) live refl)
+params_after share live clock owner o u ok few = omega (arith, no_more (is_of_kind o OfParams) (role_of u) (entry owner u) live refl)
 
-timers_after : (live : List Entry) (clock owner o : ℕ) (u : Update) → refusal_on live clock owner u ≡ None → count_by (is_of_kind o OfTimers) live ≤ 64 → count_by (is_of_kind o OfTimers) (after_entry (entry owner u) live) ≤ 64
-timers_after live clock owner o (Timer id due handler arg) ok few =
+timers_after : (share : ℕ) (live : List Entry) (clock owner o : ℕ) (u : Update) → refusal_on share live clock owner u ≡ None → count_by (is_of_kind o OfTimers) live ≤ 64 → count_by (is_of_kind o OfTimers) (after_entry (entry owner u) live) ≤ 64
+timers_after share live clock owner o (Timer id due handler arg) ok few =
     let room : (list_any (is_of owner (timer_key id)) live || ltb (count_by (is_of_kind owner OfTimers) live) 64) ≡ true = grind arith in
     kind_comes Replaces OfTimers owner o 64 (Timer id due handler arg) live
     (λ same. replaced OfTimers (timer_key id) owner 64 (Timer id due handler arg) live refl refl room (subst (λ n. count_by (is_of_kind n OfTimers) live ≤ 64) (sym same) few)) few
-timers_after live clock owner o u ok few = omega (arith, no_more (is_of_kind o OfTimers) (role_of u) (entry owner u) live refl)
+timers_after share live clock owner o u ok few = omega (arith, no_more (is_of_kind o OfTimers) (role_of u) (entry owner u) live refl)
 
 -- another hold than those on this domain
 hold_is : (owner o : ℕ) (a b : ℤ) → is_of o (hold_key b) (entry owner (Hold a)) ≡ true → (owner ≡ o) × (a ≡ b)
 hold_is owner o a b h = (grind (arith, nat_tests), (Decides-int_eq a b).0 (grind arith))
 
-holds_after : (live : List Entry) (clock owner o : ℕ) (domain : ℤ) (u : Update) → refusal_on live clock owner u ≡ None → count_by (is_of o (hold_key domain)) live ≤ 8 →
+holds_after : (share : ℕ) (live : List Entry) (clock owner o : ℕ) (domain : ℤ) (u : Update) → refusal_on share live clock owner u ≡ None → count_by (is_of o (hold_key domain)) live ≤ 8 →
     count_by (is_of o (hold_key domain)) (after_entry (entry owner u) live) ≤ 8
-holds_after live clock owner o domain (Hold d) ok few =
+holds_after share live clock owner o domain (Hold d) ok few =
     let room : count_by (is_of owner (hold_key d)) live < 8 = grind (arith, nat_tests) in
     elim (is_of o (hold_key domain) (entry owner (Hold d))) as (λ b. is_of o (hold_key domain) (entry owner (Hold d)) ≡ b → count_by (is_of o (hold_key domain)) (entry owner (Hold d) ∷ live) ≤ 8) [
       | true ↦ λ is.
@@ -116,10 +115,10 @@ holds_after live clock owner o domain (Hold d) ok few =
           one_more (is_of o (hold_key domain)) Begins (entry owner (Hold d)) live 8 here
       | false ↦ λ is. omega (arith, no_more (is_of o (hold_key domain)) Begins (entry owner (Hold d)) live is)
     ] refl
-holds_after live clock owner o domain u ok few = omega (arith, no_more (is_of o (hold_key domain)) (role_of u) (entry owner u) live refl)
+holds_after share live clock owner o domain u ok few = omega (arith, no_more (is_of o (hold_key domain)) (role_of u) (entry owner u) live refl)
 
-work_after : (live : List Entry) (clock owner o : ℕ) (u : Update) → refusal_on live clock owner u ≡ None → count_by (is_of o work_key) live ≤ 64 → count_by (is_of o work_key) (after_entry (entry owner u) live) ≤ 64
-work_after live clock owner o (Work handler arg) ok few =
+work_after : (share : ℕ) (live : List Entry) (clock owner o : ℕ) (u : Update) → refusal_on share live clock owner u ≡ None → count_by (is_of o work_key) live ≤ 64 → count_by (is_of o work_key) (after_entry (entry owner u) live) ≤ 64
+work_after share live clock owner o (Work handler arg) ok few =
     let room : count_by (is_of owner work_key) live < 64 = grind (arith, nat_tests) in
     elim (eqb owner o) as (λ b. eqb owner o ≡ b → count_by (is_of o work_key) (entry owner (Work handler arg) ∷ live) ≤ 64) [
       | true ↦ λ is.
@@ -127,7 +126,7 @@ work_after live clock owner o (Work handler arg) ok few =
           one_more (is_of o work_key) Begins (entry owner (Work handler arg)) live 64 (subst (λ n. count_by (is_of n work_key) live < 64) same room)
       | false ↦ λ is. omega (arith, no_more (is_of o work_key) Begins (entry owner (Work handler arg)) live is)
     ] refl
-work_after live clock owner o u ok few = omega (arith, no_more (is_of o work_key) (role_of u) (entry owner u) live refl)
+work_after share live clock owner o u ok few = omega (arith, no_more (is_of o work_key) (role_of u) (entry owner u) live refl)
 
 -- an owner's live entries keep the caps
 pub record KeepsCaps (owner : ℕ) (live : List Entry) : Type 0 where
@@ -138,16 +137,16 @@ pub record KeepsCaps (owner : ℕ) (live : List Entry) : Type 0 where
   pub holds : (domain : ℤ) → count_by (is_of owner (hold_key domain)) live ≤ 8
   pub work : count_by (is_of owner work_key) live ≤ 64
 
-pub keeps_caps : (h : History) → IsLawful h → (owner : ℕ) → KeepsCaps owner (live_of h)
-keeps_caps [] lawful owner = record { ports = omega arith; devices = omega arith; params = omega arith; timers = omega arith; holds = λ domain. omega arith; work = omega arith }
-keeps_caps (e ∷ h) lawful owner =
-    let before = keeps_caps h lawful.1 owner in record {
-      ports = ports_after (live_of h) (clock_of h) e.owner owner e.update lawful.0 before.ports;
-      devices = devices_after (live_of h) (clock_of h) e.owner owner e.update lawful.0 before.devices;
-      params = params_after (live_of h) (clock_of h) e.owner owner e.update lawful.0 before.params;
-      timers = timers_after (live_of h) (clock_of h) e.owner owner e.update lawful.0 before.timers;
-      holds = λ domain. holds_after (live_of h) (clock_of h) e.owner owner domain e.update lawful.0 (before.holds domain);
-      work = work_after (live_of h) (clock_of h) e.owner owner e.update lawful.0 before.work;
+pub keeps_caps : (share : ℕ) (h : History) → IsLawful share h → (owner : ℕ) → KeepsCaps owner (live_of h)
+keeps_caps share [] lawful owner = record { ports = omega arith; devices = omega arith; params = omega arith; timers = omega arith; holds = λ domain. omega arith; work = omega arith }
+keeps_caps share (e ∷ h) lawful owner =
+    let before = keeps_caps share h lawful.1 owner in record {
+      ports = ports_after share (live_of h) (clock_of h) e.owner owner e.update lawful.0 before.ports;
+      devices = devices_after share (live_of h) (clock_of h) e.owner owner e.update lawful.0 before.devices;
+      params = params_after share (live_of h) (clock_of h) e.owner owner e.update lawful.0 before.params;
+      timers = timers_after share (live_of h) (clock_of h) e.owner owner e.update lawful.0 before.timers;
+      holds = λ domain. holds_after share (live_of h) (clock_of h) e.owner owner domain e.update lawful.0 (before.holds domain);
+      work = work_after share (live_of h) (clock_of h) e.owner owner e.update lawful.0 before.work;
     }
 
 -- What holds of each entry that is made holds of each that is live.

@@ -1,5 +1,5 @@
 -- An update of one table leaves the parts of the others.
-use Rattle.std.proofs.Common.{◌≡◌, ℕ, Bool, false, List, sym, ◌∙◌}
+use Rattle.std.proofs.Common.{◌≡◌, ℕ, false, List, sym, ◌∙◌}
 use Rattle.sd_base.specs.declared.history.Update.{Update}
 use Rattle.sd_base.specs.History.{Entry, OfLines, OfPorts, OfDevices, OfParams, OfTimers, OfLocks, OfHolds, OfWork, OfMasks, same_resource, key_of, entry, after_entry, clock_after}
 use Rattle.sd_base.specs.Blocks.{Block, blocks_after}

@@ -1,5 +1,5 @@
 -- Who may take the front of the queue.
-use Rattle.std.proofs.Common.{◌≡◌, ◌≢◌, ℕ, Bool, true, false, cond, eqb, not, ◌++◌, reverse, List, [], ◌∷◌, Option, Some, None, refl, ap, sym, ◌∙◌, subst, arith}
+use Rattle.std.proofs.Common.{◌≡◌, ◌≢◌, ℕ, false, reverse, List, [], ◌∷◌, Option, Some, None, refl, ap, sym, ◌∙◌, arith}
 use Rattle.std.proofs.lemmas.Bool.Decides.{nat_tests}
 use Rattle.std.proofs.lemmas.List.{reverse-reverse}
 use Rattle.std.specs.Prelude.{slice_get}
@@ -8,13 +8,13 @@ use Rattle.sd_base.specs.declared.history.Refusal.TheVariants.{Bad}
 use Rattle.sd_base.specs.declared.history.Update.{Update}
 use Rattle.sd_base.specs.declared.history.Update.TheVariants.{Work as Queues, Taken}
 use Rattle.sd_base.specs.Selection.{find_last}
-use Rattle.sd_base.specs.History.{Entry, work_key, entry, is_owner, has_key, live_of}
+use Rattle.sd_base.specs.History.{Entry, work_key, entry, has_key, live_of}
 use Rattle.sd_base.specs.Allowed.{unless_owner}
 use Rattle.sd_base.specs.Part.{Serves}
 use Rattle.share_table.specs.declared.queue.Work.{Work}
 use Rattle.share_table.specs.Queue.{work_row_of, work_row}
 use Rattle.share_table.specs.Rows.{ShareRows}
-use Rattle.share_table.specs.Table.{HoldsShares, TakesFront}
+use Rattle.share_table.specs.Table.{HoldsShares}
 use Rattle.share_table.proofs.Parts.{takes_front}
 
 -- where no row is, no entry queued anything
@@ -46,7 +46,7 @@ is_refused h = cc h
 
 -- nobody takes from an empty queue
 pub empty_refuses : (t : ShareRows) (owner : ℕ) → None ≡ slice_get t.work 0 → Serves HoldsShares t owner Taken (Some Bad) t
-empty_refuses t owner none h lawful proper holds =
+empty_refuses t owner none share h lawful proper holds =
     let rows = filter_map work_row (live_of h) in
     let back : reverse rows ≡ [] = sym holds.work ∙ no_front t.work none in
     let nothing : rows ≡ [] = sym (reverse-reverse rows) ∙ ap reverse back in
@@ -58,7 +58,7 @@ front_owner (Some e) a b apart h = grind (arith, nat_tests)
 
 -- nobody takes another's item
 pub others_refuses : (t : ShareRows) (owner : ℕ) (work : Work) → Some work ≡ slice_get t.work 0 → work.owner ≢ owner → Serves HoldsShares t owner Taken (Some Bad) t
-others_refuses t owner work some apart h lawful proper holds =
+others_refuses t owner work some apart share h lawful proper holds =
     let front = front_is t.work work some in
-    let own = (takes_front t work front.0 front.1).1 h lawful proper holds in
+    let own = (takes_front t work front.0 front.1).1 share h lawful proper holds in
     (front_owner (find_last (has_key work_key) (live_of h)) work.owner owner apart own.0, λ ok. absurd (is_refused ok))

@@ -9,3 +9,12 @@ pub mod Caps
 pub mod Bounds
 pub mod Merged
 pub mod Histories
+pub mod ItemsOfEntries
+pub mod Without
+pub mod Taking
+pub mod Able
+pub mod Steps
+pub mod Reading
+pub mod UndoneLogs
+pub mod UndoLoop
+pub mod TakenBack

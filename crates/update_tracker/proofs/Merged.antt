@@ -1,5 +1,5 @@
 -- A log, read from its newest entry, is the net list of its owner.
-use Rattle.std.proofs.Common.{◌≡◌, ℕ, suc, ◌+◌, ◌-◌, ◌≤◌, Bool, true, false, cond, List, [], ◌∷◌, ◌++◌, length, take, drop, reverse, Option, Some, None, refl, ap, sym, ◌∙◌, subst, arith}
+use Rattle.std.proofs.Common.{◌≡◌, ℕ, suc, ◌-◌, ◌≤◌, true, false, cond, List, [], ◌∷◌, ◌++◌, length, take, drop, reverse, Some, None, refl, ap, sym, ◌∙◌, subst, arith}
 use Rattle.std.proofs.lemmas.List.{reverse-reverse}
 use Rattle.std.specs.List.{count_by}
 use Rattle.sd_base.specs.declared.history.Update.{Update}
@@ -10,7 +10,7 @@ use Rattle.sd_base.proofs.Counting.{count_by-cons}
 use Rattle.update_tracker.specs.declared.undo.Note.{Note}
 use Rattle.update_tracker.specs.declared.undo.Undo.{Undo}
 use Rattle.update_tracker.specs.NetRows.{NetRows}
-use Rattle.update_tracker.specs.NetPart.{in_front, is_block_update, is_block_entry, block_item, note_item, item_of, if_own, net_items, block_items, note_after, notes_of, ShowsNet, merged, read_back}
+use Rattle.update_tracker.specs.NetPart.{in_front, is_block_entry, block_item, note_item, item_of, if_own, net_items, block_items, note_after, notes_of, ShowsNet, merged, read_back}
 use Rattle.update_tracker.proofs.NetShown.{length-block_items}
 
 -- the newest note comes after so many at most

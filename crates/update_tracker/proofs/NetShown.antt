@@ -1,12 +1,11 @@
 -- The log of an owner shows its part of what is live, after each update of its own and of others.
-use Rattle.std.proofs.Common.{◌≡◌, ◌≢◌, ℕ, ◌+◌, ◌≤◌, Bool, true, false, cond, ◌&&◌, eqb, List, [], ◌∷◌, ◌++◌, length, reverse, ℤ, Option, Some, None, refl, ap, sym, ◌∙◌, subst, arith}
+use Rattle.std.proofs.Common.{◌≡◌, ℕ, ◌+◌, ◌≤◌, Bool, true, false, cond, ◌&&◌, eqb, List, [], ◌∷◌, ◌++◌, length, reverse, ℤ, Some, None, refl, ap, sym, ◌∙◌, subst, arith}
 use Rattle.std.proofs.lemmas.Bool.Decides.{nat_tests}
 use Rattle.std.proofs.lemmas.List.{reverse-reverse, length-reverse}
 use Rattle.std.specs.List.{list_any, count_by}
-use Rattle.sd_base.specs.declared.history.Refusal.TheVariants.{Bad, Unheld}
 use Rattle.sd_base.specs.declared.history.Update.{Update}
 use Rattle.sd_base.specs.declared.history.Update.TheVariants.{Grant, Free, Line, FreeLine, Ports, DropPorts, Device, DelDevice, Param, ClearParam, Timer, DelTimer, Fired, Lock, Unlock, Hold, DropHold, Work, Taken, Mask, Unmask, Clock}
-use Rattle.sd_base.specs.Selection.{without_first, without_last, passes, is_below}
+use Rattle.sd_base.specs.Selection.{without_first, without_last, passes}
 use Rattle.sd_base.specs.History.{Entry, entry, Key, line_key, ports_key, device_key, param_key, timer_key, hold_key, mask_key, work_key, lock_key, is_owner, is_of, Role, Begins, Replaces, Ends, EndsOldest, Passes, key_of, role_of, after_role, after_entry}
 use Rattle.sd_base.specs.Blocks.{Block, next_base, granted}
 use Rattle.sd_base.specs.Allowed.{is_lock, refusal_on}
@@ -14,13 +13,11 @@ use Rattle.sd_base.specs.Sound.{IsSound}
 use Rattle.sd_base.proofs.Counting.{reverse-cons, count_by-cons}
 use Rattle.sd_base.proofs.Removal.{reverse-without_last}
 use Rattle.sd_base.proofs.Live.{is_of-owner}
-use Rattle.sd_base.proofs.Single.{count_by-some}
-use Rattle.update_tracker.specs.declared.undo.Note.{Note}
 use Rattle.update_tracker.specs.declared.undo.Reply.{Reply}
 use Rattle.update_tracker.specs.declared.undo.Undo.{Undo}
 use Rattle.update_tracker.specs.declared.undo.Undo.TheVariants as undo
 use Rattle.update_tracker.specs.NetRows.{NetRows, has_item, is_work_note, with_block, with_note, without_note, without_oldest_work, base_in, noted}
-use Rattle.update_tracker.specs.NetPart.{in_front, is_block_update, is_block_entry, block_item, note_item, if_own, block_items, note_after, notes_of, ShowsNet}
+use Rattle.update_tracker.specs.NetPart.{in_front, is_block_update, is_block_entry, block_item, note_item, block_items, note_after, notes_of, ShowsNet}
 use Rattle.update_tracker.proofs.LogParts.{row, blocks-without_first, blocks-without_last, notes-without_first, notes-without_last, notes-without_first_other, notes-without_last_other}
 use Rattle.update_tracker.proofs.OfItems.{is_item, GoWith, own_items, item_no_block, line_item, ports_item, device_item, param_item, timer_item, hold_item, mask_item, work_item, is_own_lock, lock_item}
 
@@ -142,8 +139,8 @@ lock_goes owner lock task rows live held one shows =
     (sym (only_one (is_of owner (lock_key lock task)) (is_own_lock owner lock) (is_lock lock) (own_lock owner task lock) (any_lock owner lock) live held one))
     (note_goes owner (is_own_lock owner lock) rows live (undo.Lock lock) (lock_item owner lock) shows)
 
-let_go : (live : List Entry) (clock owner task : ℕ) (lock : ℤ) → refusal_on live clock owner (Unlock lock task) ≡ None → list_any (is_of owner (lock_key lock task)) live ≡ true
-let_go live clock owner task lock h = grind arith
+let_go : (share : ℕ) (live : List Entry) (clock owner task : ℕ) (lock : ℤ) → refusal_on share live clock owner (Unlock lock task) ≡ None → list_any (is_of owner (lock_key lock task)) live ≡ true
+let_go share live clock owner task lock h = grind arith
 
 -- what a grant is answered
 abbrev pub RepliesWell : Update → Reply → ℕ → Type 0
@@ -151,35 +148,35 @@ RepliesWell (Grant layout n image) reply base = base_in reply ≡ base
 RepliesWell _ reply base = Unit {0}
 
 -- the log after one more update of its owner shows its part
-pub own_shows : (owner : ℕ) (u : Update) (reply : Reply) (rows : NetRows) (live : List Entry) (clock : ℕ) → IsSound live → refusal_on live clock owner u ≡ None → RepliesWell u reply (next_base (granted live owner)) →
+pub own_shows : (share : ℕ) (owner : ℕ) (u : Update) (reply : Reply) (rows : NetRows) (live : List Entry) (clock : ℕ) → IsSound live → refusal_on share live clock owner u ≡ None → RepliesWell u reply (next_base (granted live owner)) →
     ShowsNet owner rows live → ShowsNet owner (noted u reply rows) (after_entry (entry owner u) live)
-own_shows owner (Grant layout n image) reply rows live clock sound ok well shows = block_comes owner (Grant layout n image) rows live (undo.Block (base_in reply)) (ap (λ b. Some (undo.Block b)) (sym well)) refl shows
-own_shows owner (Free base) reply rows live clock sound ok well shows = block_comes owner (Free base) rows live (undo.Free base) refl refl shows
-own_shows owner (Line line handler) reply rows live clock sound ok well shows = note_comes owner (Line line handler) rows live (undo.Line line) refl refl shows
-own_shows owner (FreeLine line) reply rows live clock sound ok well shows = key_goes owner (line_key line) rows live (undo.Line line) (line_item line) shows
-own_shows owner (Ports base n) reply rows live clock sound ok well shows = note_comes owner (Ports base n) rows live (undo.Ports base n) refl refl shows
-own_shows owner (DropPorts base n) reply rows live clock sound ok well shows = key_goes owner (ports_key base n) rows live (undo.Ports base n) (ports_item base n) shows
-own_shows owner (Device id) reply rows live clock sound ok well shows = note_comes owner (Device id) rows live (undo.Device id) refl refl shows
-own_shows owner (DelDevice id) reply rows live clock sound ok well shows = key_goes owner (device_key id) rows live (undo.Device id) (device_item id) shows
-own_shows owner (Param key value) reply rows live clock sound ok well shows =
+own_shows share owner (Grant layout n image) reply rows live clock sound ok well shows = block_comes owner (Grant layout n image) rows live (undo.Block (base_in reply)) (ap (λ b. Some (undo.Block b)) (sym well)) refl shows
+own_shows share owner (Free base) reply rows live clock sound ok well shows = block_comes owner (Free base) rows live (undo.Free base) refl refl shows
+own_shows share owner (Line line handler) reply rows live clock sound ok well shows = note_comes owner (Line line handler) rows live (undo.Line line) refl refl shows
+own_shows share owner (FreeLine line) reply rows live clock sound ok well shows = key_goes owner (line_key line) rows live (undo.Line line) (line_item line) shows
+own_shows share owner (Ports base n) reply rows live clock sound ok well shows = note_comes owner (Ports base n) rows live (undo.Ports base n) refl refl shows
+own_shows share owner (DropPorts base n) reply rows live clock sound ok well shows = key_goes owner (ports_key base n) rows live (undo.Ports base n) (ports_item base n) shows
+own_shows share owner (Device id) reply rows live clock sound ok well shows = note_comes owner (Device id) rows live (undo.Device id) refl refl shows
+own_shows share owner (DelDevice id) reply rows live clock sound ok well shows = key_goes owner (device_key id) rows live (undo.Device id) (device_item id) shows
+own_shows share owner (Param key value) reply rows live clock sound ok well shows =
     note_comes owner (Param key value) (without_note (undo.Param key) rows) (without_first (is_of owner (param_key key)) live) (undo.Param key) refl refl
     (key_goes owner (param_key key) rows live (undo.Param key) (param_item key) shows)
-own_shows owner (ClearParam key) reply rows live clock sound ok well shows = key_goes owner (param_key key) rows live (undo.Param key) (param_item key) shows
-own_shows owner (Timer id due handler arg) reply rows live clock sound ok well shows =
+own_shows share owner (ClearParam key) reply rows live clock sound ok well shows = key_goes owner (param_key key) rows live (undo.Param key) (param_item key) shows
+own_shows share owner (Timer id due handler arg) reply rows live clock sound ok well shows =
     note_comes owner (Timer id due handler arg) (without_note (undo.Timer id) rows) (without_first (is_of owner (timer_key id)) live) (undo.Timer id) refl refl
     (key_goes owner (timer_key id) rows live (undo.Timer id) (timer_item id) shows)
-own_shows owner (DelTimer id) reply rows live clock sound ok well shows = key_goes owner (timer_key id) rows live (undo.Timer id) (timer_item id) shows
-own_shows owner (Fired id) reply rows live clock sound ok well shows = key_goes owner (timer_key id) rows live (undo.Timer id) (timer_item id) shows
-own_shows owner (Lock lock task) reply rows live clock sound ok well shows = note_comes owner (Lock lock task) rows live (undo.Lock lock) refl refl shows
-own_shows owner (Unlock lock task) reply rows live clock sound ok well shows =
-    lock_goes owner lock task rows live (let_go live clock owner task lock ok) (sound.locks lock) shows
-own_shows owner (Hold domain) reply rows live clock sound ok well shows = note_comes owner (Hold domain) rows live (undo.Hold domain) refl refl shows
-own_shows owner (DropHold domain) reply rows live clock sound ok well shows = key_goes owner (hold_key domain) rows live (undo.Hold domain) (hold_item domain) shows
-own_shows owner (Work handler arg) reply rows live clock sound ok well shows = note_comes owner (Work handler arg) rows live (undo.Work handler arg) refl refl shows
-own_shows owner Taken reply rows live clock sound ok well shows = work_goes owner rows live shows
-own_shows owner (Mask task) reply rows live clock sound ok well shows = note_comes owner (Mask task) rows live (undo.Mask task) refl refl shows
-own_shows owner (Unmask task) reply rows live clock sound ok well shows = key_goes owner (mask_key task) rows live (undo.Mask task) (mask_item task) shows
-own_shows owner (Clock now) reply rows live clock sound ok well shows = shows
+own_shows share owner (DelTimer id) reply rows live clock sound ok well shows = key_goes owner (timer_key id) rows live (undo.Timer id) (timer_item id) shows
+own_shows share owner (Fired id) reply rows live clock sound ok well shows = key_goes owner (timer_key id) rows live (undo.Timer id) (timer_item id) shows
+own_shows share owner (Lock lock task) reply rows live clock sound ok well shows = note_comes owner (Lock lock task) rows live (undo.Lock lock) refl refl shows
+own_shows share owner (Unlock lock task) reply rows live clock sound ok well shows =
+    lock_goes owner lock task rows live (let_go share live clock owner task lock ok) (sound.locks lock) shows
+own_shows share owner (Hold domain) reply rows live clock sound ok well shows = note_comes owner (Hold domain) rows live (undo.Hold domain) refl refl shows
+own_shows share owner (DropHold domain) reply rows live clock sound ok well shows = key_goes owner (hold_key domain) rows live (undo.Hold domain) (hold_item domain) shows
+own_shows share owner (Work handler arg) reply rows live clock sound ok well shows = note_comes owner (Work handler arg) rows live (undo.Work handler arg) refl refl shows
+own_shows share owner Taken reply rows live clock sound ok well shows = work_goes owner rows live shows
+own_shows share owner (Mask task) reply rows live clock sound ok well shows = note_comes owner (Mask task) rows live (undo.Mask task) refl refl shows
+own_shows share owner (Unmask task) reply rows live clock sound ok well shows = key_goes owner (mask_key task) rows live (undo.Mask task) (mask_item task) shows
+own_shows share owner (Clock now) reply rows live clock sound ok well shows = shows
 
 -- Another owner's update.
 

@@ -1,15 +1,14 @@
 -- Entries under a key are those whose notes have one item.
-use Rattle.std.proofs.Common.{◌≡◌, ℕ, Bool, true, false, cond, ◌&&◌, eqb, ℤ, Option, Some, None, refl, ap, sym, ◌∙◌, arith}
-use Rattle.std.proofs.lemmas.Bool.Decides.{nat_tests}
+use Rattle.std.proofs.Common.{◌≡◌, ℕ, Bool, true, false, cond, ◌&&◌, ℤ, Option, None, refl, ap, sym, ◌∙◌, arith}
 use Rattle.sd_base.specs.declared.history.Update.{Update}
 use Rattle.sd_base.specs.declared.history.Update.TheVariants.{Line, Ports, Device, Param, Timer, Lock, Hold, Work, Mask}
 use Rattle.sd_base.specs.Selection.{passes}
-use Rattle.sd_base.specs.History.{Entry, entry, Key, same_key, live_key, line_key, ports_key, device_key, param_key, timer_key, hold_key, mask_key, work_key, lock_key, is_owner, is_of}
+use Rattle.sd_base.specs.History.{Entry, entry, Key, same_key, live_key, line_key, ports_key, device_key, param_key, timer_key, hold_key, mask_key, work_key, is_owner, is_of}
 use Rattle.sd_base.specs.Allowed.{is_lock}
 use Rattle.update_tracker.specs.declared.undo.Undo.{Undo}
 use Rattle.update_tracker.specs.declared.undo.Undo.TheVariants as undo
 use Rattle.update_tracker.specs.NetRows.{same_undo, is_work}
-use Rattle.update_tracker.specs.NetPart.{is_block_update, is_block_entry, note_item, if_own}
+use Rattle.update_tracker.specs.NetPart.{is_block_update, is_block_entry, note_item}
 use Rattle.update_tracker.proofs.LogParts.{row}
 
 -- the item is this one

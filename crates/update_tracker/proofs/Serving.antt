@@ -7,7 +7,7 @@ use Rattle.sd_base.specs.declared.history.Update.TheVariants.{Grant}
 use Rattle.sd_base.specs.History.{History, entry, live_of, clock_of}
 use Rattle.sd_base.specs.Blocks.{next_base, granted}
 use Rattle.sd_base.specs.Allowed.{refusal}
-use Rattle.sd_base.specs.Part.{Serves}
+use Rattle.sd_base.specs.Part.{ServesAt, Serves}
 use Rattle.claim_table.specs.ClaimRows.{ClaimRows}
 use Rattle.claim_table.specs.ClaimPart.{HoldsClaims}
 use Rattle.grant_table.specs.declared.blocks.BlockRow.{BlockRow}
@@ -31,15 +31,15 @@ accepted (Some r) reply P h = tt
 abbrev pub IsDone : ℕ → Update → Type 0
 IsDone owner u = (h : History) → reply_to h owner u ≡ Done
 
-done_as : (h : History) (owner : ℕ) (u : Update) (answer : Option Refusal) (result : Answer) → result ≡ unless answer Done → IsDone owner u → answer ≡ refusal h owner u →
-    result ≡ unless (refusal h owner u) (reply_to h owner u)
-done_as h owner u answer result is done same = is ∙ ap (λ a. unless a Done) same ∙ ap (unless (refusal h owner u)) (sym (done h))
+done_as : (share : ℕ) (h : History) (owner : ℕ) (u : Update) (answer : Option Refusal) (result : Answer) → result ≡ unless answer Done → IsDone owner u → answer ≡ refusal share h owner u →
+    result ≡ unless (refusal share h owner u) (reply_to h owner u)
+done_as share h owner u answer result is done same = is ∙ ap (λ a. unless a Done) same ∙ ap (unless (refusal share h owner u)) (sym (done h))
 
 pub claims_serve : (k : Kernel) (new : ClaimRows) (owner : ℕ) (u : Update) (answer : Option Refusal) (result : Answer) → LeavesGrants u → LeavesTimers u → LeavesShares u → LeavesClock u → IsDone owner u →
-    result ≡ unless answer Done → Serves HoldsClaims k.claims owner u answer new → ServesKernel k owner u result (record k { claims = new })
+    result ≡ unless answer Done → ServesAt k.claims.share HoldsClaims k.claims owner u answer new → ServesKernel k owner u result (record k { claims = new })
 claims_serve k new owner u answer result g t s c done is serves h lawful proper stands =
     let served = serves h lawful proper stands.tables.claims in (
-      done_as h owner u answer result is done served.0,
+      done_as k.claims.share h owner u answer result is done served.0,
       subst (λ r. OnOk r (StandsFor (record k { claims = new }) (entry owner u ∷ h))) (sym is)
           (accepted answer Done (StandsFor (record k { claims = new }) (entry owner u ∷ h)) (λ ok. record {
             tables = record {
@@ -55,8 +55,8 @@ claims_serve k new owner u answer result g t s c done is serves h lawful proper 
 pub timers_serve : (k : Kernel) (new : List Fired) (owner : ℕ) (u : Update) (answer : Option Refusal) (result : Answer) → LeavesGrants u → LeavesClaims u → LeavesShares u → LeavesClock u → IsDone owner u →
     result ≡ unless answer Done → Serves HoldsTimers k.timers owner u answer new → ServesKernel k owner u result (record k { timers = new })
 timers_serve k new owner u answer result g m s c done is serves h lawful proper stands =
-    let served = serves h lawful proper stands.tables.timers in (
-      done_as h owner u answer result is done served.0,
+    let served = serves k.claims.share h lawful proper stands.tables.timers in (
+      done_as k.claims.share h owner u answer result is done served.0,
       subst (λ r. OnOk r (StandsFor (record k { timers = new }) (entry owner u ∷ h))) (sym is)
           (accepted answer Done (StandsFor (record k { timers = new }) (entry owner u ∷ h)) (λ ok. record {
             tables = record {
@@ -72,8 +72,8 @@ timers_serve k new owner u answer result g m s c done is serves h lawful proper 
 pub shares_serve : (k : Kernel) (new : ShareRows) (owner : ℕ) (u : Update) (answer : Option Refusal) (result : Answer) → LeavesGrants u → LeavesClaims u → LeavesTimers u → LeavesClock u → IsDone owner u →
     result ≡ unless answer Done → Serves HoldsShares k.shares owner u answer new → ServesKernel k owner u result (record k { shares = new })
 shares_serve k new owner u answer result g m t c done is serves h lawful proper stands =
-    let served = serves h lawful proper stands.tables.shares in (
-      done_as h owner u answer result is done served.0,
+    let served = serves k.claims.share h lawful proper stands.tables.shares in (
+      done_as k.claims.share h owner u answer result is done served.0,
       subst (λ r. OnOk r (StandsFor (record k { shares = new }) (entry owner u ∷ h))) (sym is)
           (accepted answer Done (StandsFor (record k { shares = new }) (entry owner u ∷ h)) (λ ok. record {
             tables = record {
@@ -102,8 +102,8 @@ grants_stand k new owner u h m t s c stands holds = record {
 pub release_serves : (k : Kernel) (new : List (List BlockRow)) (owner : ℕ) (u : Update) (answer : Option Refusal) (result : Answer) → LeavesClaims u → LeavesTimers u → LeavesShares u → LeavesClock u → IsDone owner u →
     result ≡ unless answer Done → Serves HoldsGrants k.grants owner u answer new → ServesKernel k owner u result (record k { grants = new })
 release_serves k new owner u answer result m t s c done is serves h lawful proper stands =
-    let served = serves h lawful proper stands.tables.grants in (
-      done_as h owner u answer result is done served.0,
+    let served = serves k.claims.share h lawful proper stands.tables.grants in (
+      done_as k.claims.share h owner u answer result is done served.0,
       subst (λ r. OnOk r (StandsFor (record k { grants = new }) (entry owner u ∷ h))) (sym is)
           (accepted answer Done (StandsFor (record k { grants = new }) (entry owner u ∷ h)) (λ ok. grants_stand k new owner u h m t s c stands (served.1 ok))),
     )
@@ -120,11 +120,11 @@ pub grant_serves : (k : Kernel) (new : List (List BlockRow)) (owner : ℕ) (layo
     ((base : ℕ) → answer ≡ Some base → OfEachHistory k.grants (λ h. base ≡ next_base (granted h owner))) → Serves HoldsGrants k.grants owner (Grant layout n image) (no_room answer) new →
     ServesKernel k owner (Grant layout n image) result (record k { grants = new })
 grant_serves k new owner layout n image answer result is base serves h lawful proper stands =
-    let served = serves h lawful proper stands.tables.grants in
+    let served = serves k.claims.share h lawful proper stands.tables.grants in
     let u : Update = Grant layout n image in
     let none : LeavesClaims u = (refl, refl, refl, refl) in
     let unshared : LeavesShares u = (refl, refl, refl, refl) in (
-      is ∙ based_as answer (refusal h owner u) (next_base (granted h owner)) served.0 (λ b some. base b some h lawful proper stands.tables.grants),
+      is ∙ based_as answer (refusal k.claims.share h owner u) (next_base (granted h owner)) served.0 (λ b some. base b some k.claims.share h lawful proper stands.tables.grants),
       subst (λ r. OnOk r (StandsFor (record k { grants = new }) (entry owner u ∷ h))) (sym is)
           (granted_ok answer (StandsFor (record k { grants = new }) (entry owner u ∷ h)) (λ ok. grants_stand k new owner u h none refl unshared (λ now. refl) stands (served.1 ok))),
     )

@@ -1,5 +1,5 @@
 -- What a history answers to an update, and what it means that the kernel serves one.
-use Rattle.std.specs.Prelude.{◌≡◌, ℕ, List, ◌∷◌, Option, Some, None, Result, Ok, Err, OnOk}
+use Rattle.std.specs.Prelude.{◌≡◌, ℕ, ◌∷◌, Option, Some, None, Result, Ok, Err, OnOk}
 use Rattle.sd_base.specs.declared.history.Refusal.{Refusal}
 use Rattle.sd_base.specs.declared.history.Refusal.TheVariants.{NoRoom}
 use Rattle.sd_base.specs.declared.history.Update.{Update}
@@ -36,12 +36,12 @@ reply_to h owner (Grant layout n image) = Base (next_base (granted h owner))
 reply_to h owner _ = Done
 
 -- what a history answers to an owner's update: the refusal of its rule, or the reply
-abbrev pub answered : History → ℕ → Update → Answer
-answered h owner update = unless (refusal h owner update) (reply_to h owner update)
+abbrev pub answered : ℕ → History → ℕ → Update → Answer
+answered share h owner update = unless (refusal share h owner update) (reply_to h owner update)
 
 -- For every lawful history for which the kernel stands, an owner's update is answered as the history says, and where it is
 -- accepted the kernel then stands for the history with the update.
 abbrev pub ServesKernel : Kernel → ℕ → Update → Answer → Kernel → Type 0
 ServesKernel old owner update answer new =
-    (h : History) → IsLawful h → IsProper h → StandsFor old h →
-    (answer ≡ answered h owner update) × OnOk answer (StandsFor new (entry owner update ∷ h))
+    (h : History) → IsLawful old.claims.share h → IsProper h → StandsFor old h →
+    (answer ≡ answered old.claims.share h owner update) × OnOk answer (StandsFor new (entry owner update ∷ h))

@@ -27,4 +27,4 @@ NothingLeftOfOwner = (h : History) (owner : ℕ) → net_of (Without h owner) ow
 -- In a lawful history an owner has at most 9,065 entries in its net list: 4,096 blocks and as many releases, 64 lines, 32 ranges
 -- of ports, 32 devices, 32 parameters, 64 timers, 64 locks, 8 holds on each of 64 domains, 64 items of work and 9 masks.
 abbrev pub NetListsAreShort : Type 0
-NetListsAreShort = (h : History) (owner : ℕ) → IsLawful h → IsProper h → length (net_of h owner) ≤ 9065
+NetListsAreShort = (share : ℕ) (h : History) (owner : ℕ) → IsLawful share h → IsProper h → length (net_of h owner) ≤ 9065

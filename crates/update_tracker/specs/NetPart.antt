@@ -1,14 +1,15 @@
 -- What the log of an owner's live updates says of a history: its net list, grants and releases apart.
-use Rattle.std.specs.Prelude.{◌≡◌, ℕ, ◌-◌, Bool, true, false, cond, ◌&&◌, List, [], ◌∷◌, ◌++◌, length, take, drop, reverse, Option, Some, None}
+use Rattle.std.specs.Prelude.{◌≡◌, ℕ, ◌-◌, Bool, true, false, cond, not, ltb, ◌&&◌, List, [], ◌∷◌, ◌++◌, length, take, drop, reverse, slice_get, Option, Some, None}
 use Rattle.std.specs.List.{count_by}
 use Rattle.sd_base.specs.declared.history.Update.{Update}
 use Rattle.sd_base.specs.declared.history.Update.TheVariants.{Grant, Free, Line, Ports, Device, Param, Timer, Lock, Hold, Work, Mask}
+use Rattle.sd_base.specs.Selection.{passes}
 use Rattle.sd_base.specs.History.{Entry, is_owner}
 use Rattle.sd_base.specs.Blocks.{Block, next_base, granted}
 use Rattle.update_tracker.specs.declared.undo.Note.{Note}
 use Rattle.update_tracker.specs.declared.undo.Undo.{Undo}
 use Rattle.update_tracker.specs.declared.undo.Undo.TheVariants as undo
-use Rattle.update_tracker.specs.NetRows.{NetRows}
+use Rattle.update_tracker.specs.NetRows.{NetRows, no_rows}
 
 -- in front of the list, where there is one
 abbrev pub in_front : {X : Type 0} → Option X → List X → List X
@@ -92,3 +93,12 @@ read_back rows = merged (reverse rows.blocks) (reverse rows.notes)
 -- a log reads as the net list of its owner
 abbrev pub LogsReadAsNetLists : Type 0
 LogsReadAsNetLists = (owner : ℕ) (rows : NetRows) (live : List Entry) → ShowsNet owner rows live → read_back rows ≡ net_items owner live
+
+-- the newest note comes after at least so many grants and releases, so that it is newer than they are
+abbrev pub is_newest_note : List Note → ℕ → Bool
+is_newest_note notes blocks = passes (λ (note : Note). not (ltb note.after blocks)) (slice_get notes (length notes - 1))
+
+-- what is read is the item and then what is read afterwards; where there is none, nothing is left
+abbrev pub Pops : NetRows → Option Undo → NetRows → Type 0
+Pops old None new = (read_back old ≡ []) × (new ≡ no_rows)
+Pops old (Some item) new = read_back old ≡ item ∷ read_back new

@@ -5,14 +5,16 @@ use Rattle.sd_base.specs.History.{History, entry, live_of}
 use Rattle.sd_base.specs.Allowed.{IsLawful, IsProper}
 use Rattle.kernel_tables.specs.declared.kernel.Kernel.{Kernel}
 use Rattle.kernel_tables.specs.Standing.{StandsFor}
+use Rattle.update_tracker.specs.declared.undo.Undo.{Undo}
 use Rattle.update_tracker.specs.NetRows.{NetRows, no_rows}
 use Rattle.update_tracker.specs.NetPart.{ShowsNet}
 use Rattle.update_tracker.specs.Answered.{Answer, answered}
 
--- the kernel's tables, and of each owner the log of its live updates
+-- the kernel's tables, of each owner the log of its live updates, and what was taken back last
 pub record TrackedRows : Type 0 where
   pub kernel : Kernel
   pub logs : List NetRows
+  pub undone : List Undo
 
 -- the tables and the clock are those of a history, and each log shows the net list of its owner
 pub record Stands (t : TrackedRows) (h : History) : Type 0 where
@@ -22,7 +24,7 @@ pub record Stands (t : TrackedRows) (h : History) : Type 0 where
 -- there is a lawful history for which they stand
 pub record HasHistory (t : TrackedRows) : Type 0 where
   pub history : History
-  pub lawful : IsLawful history
+  pub lawful : IsLawful t.kernel.claims.share history
   pub proper : IsProper history
   pub stands : Stands t history
   pub places : length t.logs ≡ 5
@@ -31,5 +33,9 @@ pub record HasHistory (t : TrackedRows) : Type 0 where
 -- they then stand for the history with the update.
 abbrev pub ServesTracked : TrackedRows → ℕ → Update → Answer → TrackedRows → Type 0
 ServesTracked old owner update answer new =
-    (h : History) → IsLawful h → IsProper h → Stands old h →
-    (answer ≡ answered h owner update) × OnOk answer (Stands new (entry owner update ∷ h))
+    (h : History) → IsLawful old.kernel.claims.share h → IsProper h → Stands old h →
+    (answer ≡ answered old.kernel.claims.share h owner update) × OnOk answer (Stands new (entry owner update ∷ h))
+
+-- what is said of every lawful history for which they stand
+abbrev pub OfEachHistory : TrackedRows → (History → Type 0) → Type 0
+OfEachHistory t P = (h : History) → IsLawful t.kernel.claims.share h → IsProper h → Stands t h → P h

@@ -9,6 +9,8 @@ mod proper;
 mod requests;
 mod tracked;
 mod undo;
+mod undoing;
+mod undone;
 
 pub use laws::{
     logs_read_as_net_lists, net_lists_after_one_more_entry, net_lists_are_short,

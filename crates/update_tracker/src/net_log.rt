@@ -2,6 +2,7 @@
 ghost use Rattle.std.specs.Prelude.{◌≡◌, IfOk};
 ghost use Rattle.std.specs.List.{position};
 ghost use Rattle.update_tracker.specs.NetRows.{no_rows, same_undo, has_item, is_work, is_work_note, base_in, with_block, with_note, without_note, without_oldest_work, noted};
+ghost use Rattle.update_tracker.specs.NetPart.{is_newest_note, Pops};
 ghost use Rattle.update_tracker.specs.Places.{FindsLastPlace, HasRoom};
 
 use crate::undo::{Note, Reply, Undo};
@@ -77,6 +78,16 @@ fn base_in(reply: Reply) -> u32
         Reply::Done => 0,
         Reply::Base(base) => base,
     }
+}
+
+/// Whether the newest note was made after so many grants and releases.
+fn is_newest_note(notes: &[Note], blocks: usize) -> bool
+    ensures { result ≡ is_newest_note notes.now blocks }
+{
+    let Some(note) = notes.last() else {
+        return false;
+    };
+    note.after as usize >= blocks
 }
 
 impl NetLog {
@@ -165,5 +176,17 @@ impl NetLog {
             Update::Unmask { task } => self.end(Undo::Mask(task)),
             Update::Clock { .. } => {}
         }
+    }
+    /// Takes out what was noted last of all, if there is anything.
+    pub fn pop(&mut self) -> Option<Undo>
+        ensures { Pops self.old result self.new }
+    {
+        if is_newest_note(self.notes.as_slice(), self.blocks.len()) {
+            let Some(note) = self.notes.pop() else {
+                return None;
+            };
+            return Some(note.item);
+        }
+        self.blocks.pop()
     }
 }

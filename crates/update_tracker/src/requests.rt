@@ -34,6 +34,7 @@ fn take(shares: &mut Shares, owner: u8) -> Result<Reply, Refusal>
 /// Sets the clock, which does not go back.
 fn set_clock(kernel: &mut Kernel, owner: u8, now: u32) -> Result<Reply, Refusal>
     ensures serves { ServesKernel kernel.old owner (Clock now) result kernel.new }
+    ensures share { kernel.new.claims.share ≡ kernel.old.claims.share }
     ensures err { OnErr result (kernel.new ≡ kernel.old) }
 {
     if now < kernel.now {
@@ -48,6 +49,7 @@ pub fn ask(kernel: &mut Kernel, owner: u8, update: Update) -> Result<Reply, Refu
     requires owner { owner ≤ 4 }
     requires proper { is_proper owner update ≡ true }
     ensures serves { ServesKernel kernel.old owner update result kernel.new }
+    ensures share { kernel.new.claims.share ≡ kernel.old.claims.share }
     ensures err { OnErr result (kernel.new ≡ kernel.old) }
 {
     match update {

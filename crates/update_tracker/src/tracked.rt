@@ -1,16 +1,22 @@
 //! The kernel's tables in step with a history.
-ghost use Rattle.std.specs.Prelude.{◌≡◌, [], true, IfOk, OnErr};
+ghost use Rattle.std.specs.Prelude.{◌≡◌, ◌+◌, ◌<◌, ◌≤◌, [], true, IfOk, OnErr};
 ghost use Rattle.sd_base.specs.Allowed.{is_proper};
+ghost use Rattle.sd_base.specs.History.{net_of, Without};
 ghost use Rattle.kernel_tables.specs.Standing.{StandsFor};
-ghost use Rattle.update_tracker.specs.Tracking.{Stands, ServesTracked};
+ghost use Rattle.update_tracker.specs.Entries.{AreItemsOf};
+ghost use Rattle.update_tracker.specs.Undoing.{steps_for};
+ghost use Rattle.update_tracker.specs.Tracking.{Stands, ServesTracked, OfEachHistory};
 
 use crate::net_log::NetLog;
 use crate::requests::ask;
-use crate::undo::Reply;
+use crate::undo::{Reply, Undo};
+use crate::undoing::undo_log;
+use crate::undone::Undone;
 use kernel_tables::Kernel;
-use sd_base::{Memory, Refusal, Update};
+use sd_base::{Memory, Refusal, Steps, Update};
 use std::alloc::Global;
 use std::marker::Model;
+use std::sync::ledger::Ledger;
 
 /// The kernel's tables with a log of what each owner has live, from the kernel, which is 0, to the driver 4.
 ///
@@ -19,6 +25,7 @@ use std::marker::Model;
 pub struct Tracked {
     kernel: Kernel,
     logs: [NetLog; 5],
+    undone: Undone,
 }
 
 impl Model for Tracked {
@@ -26,9 +33,9 @@ impl Model for Tracked {
 
     ghost Value = { TrackedRows };
 
-    ghost view = { λ a. record { kernel = a.kernel; logs = a.logs } };
+    ghost view = { λ a. record { kernel = a.kernel; logs = a.logs; undone = a.undone } };
 
-    ghost invariant = { λ a. HasHistory (record { kernel = a.kernel; logs = a.logs }) };
+    ghost invariant = { λ a. HasHistory (record { kernel = a.kernel; logs = a.logs; undone = a.undone }) };
 }
 
 impl Tracked {
@@ -37,6 +44,7 @@ impl Tracked {
         requires { StandsFor kernel [] }
         ensures stands { IfOk result (λ tracked. Stands tracked []) }
         ensures kernel { IfOk result (λ tracked. tracked.kernel ≡ kernel) }
+        ensures undone { IfOk result (λ tracked. tracked.undone ≡ []) }
     {
         let logs = [
             NetLog::new(alloc)?,
@@ -45,7 +53,12 @@ impl Tracked {
             NetLog::new(alloc)?,
             NetLog::new(alloc)?,
         ];
-        Ok(Tracked { kernel, logs })
+        let undone = Undone::new(alloc)?;
+        Ok(Tracked {
+            kernel,
+            logs,
+            undone,
+        })
     }
 
     /// Makes an owner's update, or refuses it as the history says. What is refused changes nothing.
@@ -61,6 +74,8 @@ impl Tracked {
     pub fn update(&mut self, owner: u8, update: Update) -> Result<Reply, Refusal>
         requires { is_proper owner update ≡ true }
         ensures serves { ServesTracked self.old owner update result self.new }
+        ensures undone { self.new.undone ≡ self.old.undone }
+        ensures share { self.new.kernel.claims.share ≡ self.old.kernel.claims.share }
         ensures err { OnErr result (self.new ≡ self.old) }
     {
         let reply = match ask(&mut self.kernel, owner, update) {
@@ -70,6 +85,29 @@ impl Tracked {
         let log = &mut self.logs[usize::from(owner)];
         log.note(update, reply);
         Ok(reply)
+    }
+
+    /// Takes back all that a driver has live, from its newest entry to its oldest, whatever other owners did in between. Then
+    /// the tables stand for the history without the driver's entries.
+    ///
+    /// One step is one change of a row of a table, or one move of an item of the work queue.
+    pub fn take_back<L: Ledger>(&mut self, owner: u8, steps: &mut Steps<L>)
+        requires driver { 0 < owner }
+        requires owner { owner ≤ 4 }
+        ensures without { OfEachHistory self.old (λ h. Stands self.new (Without h owner)) }
+        ensures share { self.new.kernel.claims.share ≡ self.old.kernel.claims.share }
+        ensures undone { OfEachHistory self.old (λ h. AreItemsOf self.new.undone (net_of h owner)) }
+        ensures steps { OfEachHistory self.old (λ h. steps.new ≤ steps.old + steps_for (net_of h owner)) }
+    {
+        let log = &mut self.logs[usize::from(owner)];
+        undo_log(&mut self.kernel, owner, log, &mut self.undone, steps);
+    }
+
+    /// What the last `take_back` took back, from the newest entry, or nothing before the first.
+    pub fn undone(&self) -> &[Undo]
+        ensures { result.now ≡ self.now.undone }
+    {
+        self.undone.as_slice()
     }
 
     /// The tables.

@@ -3,8 +3,8 @@ use Rattle.std.proofs.lemmas.Int.{to_z-of_z}
 use mir.Syntax.{w32}
 use mir.Val.{SFits}
 use Rattle.sd_base.specs.declared.history.Refusal.TheVariants.{Unheld}
-use Rattle.sd_base.specs.declared.history.Update.TheVariants.{FreeLine, DropPorts, DelDevice, Param, ClearParam, Timer, DelTimer, Fired, Unlock, Hold, DropHold, Taken, Unmask}
-use Rattle.sd_base.specs.Part.{Serves}
+use Rattle.sd_base.specs.declared.history.Update.TheVariants.{Line, FreeLine, DropPorts, DelDevice, Param, ClearParam, Timer, DelTimer, Fired, Unlock, Hold, DropHold, Taken, Unmask}
+use Rattle.sd_base.specs.Part.{ServesAt, Serves}
 use Rattle.claim_table.specs.ClaimPart.{HoldsClaims, refused_as}
 use Rattle.share_table.specs.Answers.{refusal_of_share}
 use Rattle.share_table.specs.Locks.{refusal_of_unlock}
@@ -14,10 +14,17 @@ use Rattle.update_tracker.specs.Answered.{refused, ServesKernel}
 use Rattle.update_tracker.proofs.Serving.{claims_serve, timers_serve, shares_serve}
 use Rattle.update_tracker.proofs.requests.ask.Goals as goal
 
+pub returns-in-Line-clause-serves : goal.returns-in-Line-clause-serves
+returns-in-Line-clause-serves c =
+    let fits-line : SFits w32 c.in-Line.line = search rules in
+    let served : ServesAt c.args.kernel.now.claims.share HoldsClaims c.args.kernel.now.claims c.args.owner (Line c.in-Line.line c.in-Line.handler) (refused_as c.claim_line.result) c.claim_line.new.self = simp to_z-of_z at c.claim_line.ensures.serves in
+    subst (λ u. ServesKernel c.args.kernel.now c.args.owner u c.of_claim.result (record c.args.kernel.now { claims = c.claim_line.new.self })) (sym c.in-Line.is)
+    (claims_serve c.args.kernel.now c.claim_line.new.self c.args.owner (Line c.in-Line.line c.in-Line.handler) (refused_as c.claim_line.result) c.of_claim.result (λ bs. refl) refl (refl, refl, refl, refl) (λ now. refl) (λ h. refl) c.of_claim.ensures served)
+
 pub returns-in-FreeLine-clause-serves : goal.returns-in-FreeLine-clause-serves
 returns-in-FreeLine-clause-serves c =
     let fits-line : SFits w32 c.in-FreeLine.line = search rules in
-    let served : Serves HoldsClaims c.args.kernel.now.claims c.args.owner (FreeLine c.in-FreeLine.line) (refused_as c.free_line.result) c.free_line.new.self = simp to_z-of_z at c.free_line.ensures.serves in
+    let served : ServesAt c.args.kernel.now.claims.share HoldsClaims c.args.kernel.now.claims c.args.owner (FreeLine c.in-FreeLine.line) (refused_as c.free_line.result) c.free_line.new.self = simp to_z-of_z at c.free_line.ensures.serves in
     subst (λ u. ServesKernel c.args.kernel.now c.args.owner u c.of_claim-in-FreeLine.result (record c.args.kernel.now { claims = c.free_line.new.self })) (sym c.in-FreeLine.is)
     (claims_serve c.args.kernel.now c.free_line.new.self c.args.owner (FreeLine c.in-FreeLine.line) (refused_as c.free_line.result) c.of_claim-in-FreeLine.result (λ bs. refl) refl (refl, refl, refl, refl) (λ now. refl) (λ h. refl) c.of_claim-in-FreeLine.ensures served)
 
@@ -25,14 +32,14 @@ pub returns-in-DropPorts-clause-serves : goal.returns-in-DropPorts-clause-serves
 returns-in-DropPorts-clause-serves c =
     let fits-base : SFits w32 c.in-DropPorts.base = search rules in
     let fits-n : SFits w32 c.in-DropPorts.n = search rules in
-    let served : Serves HoldsClaims c.args.kernel.now.claims c.args.owner (DropPorts c.in-DropPorts.base c.in-DropPorts.n) (refused_as c.drop_ports.result) c.drop_ports.new.self = simp to_z-of_z at c.drop_ports.ensures.serves in
+    let served : ServesAt c.args.kernel.now.claims.share HoldsClaims c.args.kernel.now.claims c.args.owner (DropPorts c.in-DropPorts.base c.in-DropPorts.n) (refused_as c.drop_ports.result) c.drop_ports.new.self = simp to_z-of_z at c.drop_ports.ensures.serves in
     subst (λ u. ServesKernel c.args.kernel.now c.args.owner u c.of_claim-in-DropPorts.result (record c.args.kernel.now { claims = c.drop_ports.new.self })) (sym c.in-DropPorts.is)
     (claims_serve c.args.kernel.now c.drop_ports.new.self c.args.owner (DropPorts c.in-DropPorts.base c.in-DropPorts.n) (refused_as c.drop_ports.result) c.of_claim-in-DropPorts.result (λ bs. refl) refl (refl, refl, refl, refl) (λ now. refl) (λ h. refl) c.of_claim-in-DropPorts.ensures served)
 
 pub returns-in-DelDevice-clause-serves : goal.returns-in-DelDevice-clause-serves
 returns-in-DelDevice-clause-serves c =
     let fits-id : SFits w32 c.in-DelDevice.id = search rules in
-    let served : Serves HoldsClaims c.args.kernel.now.claims c.args.owner (DelDevice c.in-DelDevice.id) (refused_as c.del_device.result) c.del_device.new.self = simp to_z-of_z at c.del_device.ensures.serves in
+    let served : ServesAt c.args.kernel.now.claims.share HoldsClaims c.args.kernel.now.claims c.args.owner (DelDevice c.in-DelDevice.id) (refused_as c.del_device.result) c.del_device.new.self = simp to_z-of_z at c.del_device.ensures.serves in
     subst (λ u. ServesKernel c.args.kernel.now c.args.owner u c.of_claim-in-DelDevice.result (record c.args.kernel.now { claims = c.del_device.new.self })) (sym c.in-DelDevice.is)
     (claims_serve c.args.kernel.now c.del_device.new.self c.args.owner (DelDevice c.in-DelDevice.id) (refused_as c.del_device.result) c.of_claim-in-DelDevice.result (λ bs. refl) refl (refl, refl, refl, refl) (λ now. refl) (λ h. refl) c.of_claim-in-DelDevice.ensures served)
 
@@ -40,14 +47,14 @@ pub returns-in-Param-clause-serves : goal.returns-in-Param-clause-serves
 returns-in-Param-clause-serves c =
     let fits-key : SFits w32 c.in-Param.key = search rules in
     let fits-value : SFits w32 c.in-Param.value = search rules in
-    let served : Serves HoldsClaims c.args.kernel.now.claims c.args.owner (Param c.in-Param.key c.in-Param.value) (refused_as c.set_param.result) c.set_param.new.self = simp to_z-of_z at c.set_param.ensures.serves in
+    let served : ServesAt c.args.kernel.now.claims.share HoldsClaims c.args.kernel.now.claims c.args.owner (Param c.in-Param.key c.in-Param.value) (refused_as c.set_param.result) c.set_param.new.self = simp to_z-of_z at c.set_param.ensures.serves in
     subst (λ u. ServesKernel c.args.kernel.now c.args.owner u c.of_claim-in-Param.result (record c.args.kernel.now { claims = c.set_param.new.self })) (sym c.in-Param.is)
     (claims_serve c.args.kernel.now c.set_param.new.self c.args.owner (Param c.in-Param.key c.in-Param.value) (refused_as c.set_param.result) c.of_claim-in-Param.result (λ bs. refl) refl (refl, refl, refl, refl) (λ now. refl) (λ h. refl) c.of_claim-in-Param.ensures served)
 
 pub returns-in-ClearParam-clause-serves : goal.returns-in-ClearParam-clause-serves
 returns-in-ClearParam-clause-serves c =
     let fits-key : SFits w32 c.in-ClearParam.key = search rules in
-    let served : Serves HoldsClaims c.args.kernel.now.claims c.args.owner (ClearParam c.in-ClearParam.key) (refused_as c.clear_param.result) c.clear_param.new.self = simp to_z-of_z at c.clear_param.ensures.serves in
+    let served : ServesAt c.args.kernel.now.claims.share HoldsClaims c.args.kernel.now.claims c.args.owner (ClearParam c.in-ClearParam.key) (refused_as c.clear_param.result) c.clear_param.new.self = simp to_z-of_z at c.clear_param.ensures.serves in
     subst (λ u. ServesKernel c.args.kernel.now c.args.owner u c.of_claim-in-ClearParam.result (record c.args.kernel.now { claims = c.clear_param.new.self })) (sym c.in-ClearParam.is)
     (claims_serve c.args.kernel.now c.clear_param.new.self c.args.owner (ClearParam c.in-ClearParam.key) (refused_as c.clear_param.result) c.of_claim-in-ClearParam.result (λ bs. refl) refl (refl, refl, refl, refl) (λ now. refl) (λ h. refl) c.of_claim-in-ClearParam.ensures served)
 

@@ -11,6 +11,7 @@ insert-requires c = omega (arith, few_length _ _ _ _ c.self.invariant.devices)
 
 pub invariant_of-self : goal.invariant_of-self
 invariant_of-self c = record {
+  share = c.self.invariant.share;
   lines = c.self.invariant.lines;
   ports = c.self.invariant.ports;
   devices = (let room : count_by (λ r. eqb r.owner c.args.owner) c.self.inside.devices < 32 = search rules in

@@ -14,6 +14,7 @@ insert-requires c = record { room = omega (arith, few_length _ _ _ _ c.self.inva
 
 pub invariant_of-self : goal.invariant_of-self
 invariant_of-self c = record {
+  share = c.self.invariant.share;
   lines = c.self.invariant.lines;
   ports = (let room : count_by (λ r. eqb r.owner c.args.owner) c.self.inside.ports < 32 = search rules in
       subst (FewOfEach (λ c. c.owner) 5 32) (sym c.insert.ensures) (few_insert (λ c. c.owner) 5 32 _ c.self.inside.ports (omega arith) room c.self.invariant.ports));

@@ -8,6 +8,7 @@ use Rattle.claim_table.proofs.claims.Claims.clear_param.Goals as goal
 
 pub invariant_of-self : goal.invariant_of-self
 invariant_of-self c = record {
+  share = c.self.invariant.share;
   lines = c.self.invariant.lines;
   ports = c.self.invariant.ports;
   devices = c.self.invariant.devices;

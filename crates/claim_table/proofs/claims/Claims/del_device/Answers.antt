@@ -8,6 +8,7 @@ use Rattle.claim_table.proofs.claims.Claims.del_device.Goals as goal
 
 pub invariant_of-self : goal.invariant_of-self
 invariant_of-self c = record {
+  share = c.self.invariant.share;
   lines = c.self.invariant.lines;
   ports = c.self.invariant.ports;
   devices = subst (FewOfEach (λ c. c.owner) 5 32) (sym c.drop_claim.ensures) (few_filter (λ c. c.owner) 5 32 (is_not_claim c.args.owner c.in-Some.number) c.self.inside.devices c.self.invariant.devices);

@@ -9,6 +9,7 @@ use Rattle.claim_table.proofs.claims.Claims.drop_ports.Goals as goal
 
 pub invariant_of-self : goal.invariant_of-self
 invariant_of-self c = record {
+  share = c.self.invariant.share;
   lines = c.self.invariant.lines;
   ports = subst (FewOfEach (λ c. c.owner) 5 32) (sym c.drop_range.ensures) (few_filter (λ c. c.owner) 5 32 (is_not_range_claim c.args.owner c.in-Some.range.base c.in-Some.range.n) c.self.inside.ports c.self.invariant.ports);
   devices = c.self.invariant.devices;

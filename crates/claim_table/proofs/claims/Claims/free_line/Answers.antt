@@ -8,7 +8,8 @@ use Rattle.claim_table.proofs.claims.Claims.free_line.Goals as goal
 
 pub invariant_of-self : goal.invariant_of-self
 invariant_of-self c = record {
-  lines = subst (FewOfEach (λ c. c.number) 64 1) (sym c.drop_claim.ensures) (few_filter (λ c. c.number) 64 1 (is_not_claim c.args.owner c.in-Some.number) c.self.inside.lines c.self.invariant.lines);
+  share = c.self.invariant.share;
+  lines = subst (FewOfEach (λ c. c.number) 64 c.self.inside.share) (sym c.drop_claim.ensures) (few_filter (λ c. c.number) 64 c.self.inside.share (is_not_claim c.args.owner c.in-Some.number) c.self.inside.lines c.self.invariant.lines);
   ports = c.self.invariant.ports;
   devices = c.self.invariant.devices;
   params = c.self.invariant.params;

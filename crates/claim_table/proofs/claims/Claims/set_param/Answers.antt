@@ -24,6 +24,7 @@ room c =
 
 pub invariant_of-self : goal.invariant_of-self
 invariant_of-self c = record {
+  share = c.self.invariant.share;
   lines = c.self.invariant.lines;
   ports = c.self.invariant.ports;
   devices = c.self.invariant.devices;

@@ -27,3 +27,11 @@ returns-clause-gone g c =
     let all : c.loop-place.place ≡ length c.self.inside.items.items = (let most = c.loop-place.auto.place-end in let least = c.loop-place-test.false in let len = c.len-place-end.ensures.len in omega arith) in
     ap (λ (b : Buffer Work). b.items) (newest_gone c.args.owner c.self.inside.items.items c.args.self.now c.loop-place.self-inside.items c.self.inside.items.capacity c.newest_of-newest.result c.loop-place.place c.self.view_is c.loop-place.invariant.items all
     c.newest_of-newest.ensures.newest c.newest_of-newest.ensures.own) ∙ ap (without_last (is_owned c.args.owner)) c.self.view_is
+
+pub returns-clause-few : goal.returns-clause-few
+returns-clause-few g c =
+    let most = c.loop-place.auto.place-end in
+    let least = c.loop-place-test.false in
+    let within = c.len-place-end.ensures.within in
+    let room = c.self.invariant.room in
+    omega (arith, c.loop-place.invariant.steps)

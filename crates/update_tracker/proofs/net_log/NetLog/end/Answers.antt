@@ -1,6 +1,6 @@
-use Rattle.std.proofs.Common.{List, sym, ap, ◌∙◌}
+use Rattle.std.proofs.Common.{List, ap, ◌∙◌}
 use Rattle.update_tracker.specs.declared.undo.Note.{Note}
-use Rattle.update_tracker.specs.NetRows.{NetRows, has_item}
+use Rattle.update_tracker.specs.NetRows.{has_item}
 use Rattle.update_tracker.proofs.Ended.{newest_goes, none_goes}
 use Rattle.update_tracker.proofs.net_log.NetLog.end.Goals as goal
 

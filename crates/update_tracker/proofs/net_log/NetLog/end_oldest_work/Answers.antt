@@ -1,6 +1,6 @@
-use Rattle.std.proofs.Common.{List, Some, None, sym, ap, ◌∙◌}
+use Rattle.std.proofs.Common.{List, sym, ap, ◌∙◌}
 use Rattle.update_tracker.specs.declared.undo.Note.{Note}
-use Rattle.update_tracker.specs.NetRows.{NetRows, is_work_note}
+use Rattle.update_tracker.specs.NetRows.{is_work_note}
 use Rattle.update_tracker.proofs.Ended.{oldest_goes, no_oldest_goes}
 use Rattle.update_tracker.proofs.net_log.NetLog.end_oldest_work.Goals as goal
 

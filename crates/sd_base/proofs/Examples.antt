@@ -25,6 +25,22 @@ another's_line_is_not_given_back = refl
 a_line_is_free_again : refusal 1 (entry 1 (FreeLine (pos 5)) ∷ line_5) 2 (Line (pos 5) 0) ≡ None
 a_line_is_free_again = refl
 
+-- where four owners may hold a line, the fifth is refused, and so is an owner that holds it already
+abbrev held_by_four : History
+held_by_four = entry 3 (Line (pos 5) 0) ∷ entry 2 (Line (pos 5) 0) ∷ entry 1 (Line (pos 5) 0) ∷ entry 0 (Line (pos 5) 0) ∷ []
+
+a_line_is_shared : refusal 4 line_5 2 (Line (pos 5) 0) ≡ None
+a_line_is_shared = refl
+
+an_owner_holds_a_line_once : refusal 4 line_5 1 (Line (pos 5) 0) ≡ Some Busy
+an_owner_holds_a_line_once = refl
+
+the_fifth_holder : refusal 4 held_by_four 4 (Line (pos 5) 0) ≡ Some Busy
+the_fifth_holder = refl
+
+another_in_its_place : refusal 4 (Without held_by_four 2) 4 (Line (pos 5) 0) ≡ None
+another_in_its_place = refl
+
 abbrev lock_3 : History
 lock_3 = entry 1 (Lock (pos 3) 1) ∷ []
 

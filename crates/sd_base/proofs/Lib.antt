@@ -11,4 +11,5 @@ pub mod Newest
 pub mod Single
 pub mod SoundLive
 pub mod NetLists
+mod OneHolder
 mod Examples

@@ -7,7 +7,7 @@ use Rattle.std.specs.Ordering.{int_eq}
 use Rattle.sd_base.specs.declared.history.Update.{Update}
 use Rattle.sd_base.specs.declared.history.Update.TheVariants.{Line, Ports, Device, Lock, Mask}
 use Rattle.sd_base.specs.Selection.{without_first}
-use Rattle.sd_base.specs.History.{Entry, History, Resource, OfBlocks, OfFrees, OfLines, OfPorts, OfDevices, OfParams, OfTimers, OfLocks, OfHolds, OfWork, OfMasks, OfClock, OfNothing, place_of, same_resource, Key, same_key, line_key, ports_key, device_key, lock_key, entry, has_key, is_of, Role, Begins, Replaces, Ends, EndsOldest, Passes, key_by_role, key_of, role_of, live_key, after_role, live_of, clock_of}
+use Rattle.sd_base.specs.History.{Entry, History, Resource, OfBlocks, OfFrees, OfLines, OfPorts, OfDevices, OfParams, OfTimers, OfLocks, OfHolds, OfWork, OfMasks, OfClock, OfNothing, place_of, same_resource, Key, same_key, ports_key, device_key, lock_key, entry, has_key, is_of, Role, Begins, Replaces, Ends, EndsOldest, Passes, key_by_role, key_of, role_of, live_key, after_role, live_of, clock_of}
 use Rattle.sd_base.specs.Allowed.{overlaps, meets, is_range, is_lock, held_by, refusal_on, IsLawful}
 use Rattle.sd_base.specs.Sound.{is_single}
 use Rattle.sd_base.proofs.Counting.{count_by-cons}
@@ -85,7 +85,7 @@ held_by-none : (o : Option Entry) → held_by o ≡ None → o ≡ None
 held_by-none None h = refl
 held_by-none (Some e) h = cc
 
-within_line : (owner : ℕ) (key : Key) (x : Entry) → is_of owner key x ≡ true → has_key key x ≡ true
+pub within_line : (owner : ℕ) (key : Key) (x : Entry) → is_of owner key x ≡ true → has_key key x ≡ true
 within_line owner key x h = grind arith
 
 overlaps_itself : (base n : ℤ) → is_range base n ≡ true → overlaps base n base n ≡ true

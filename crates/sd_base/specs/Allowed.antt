@@ -44,7 +44,8 @@ abbrev pub unless_owner : ℕ → Option Entry → Option Refusal
 unless_owner owner None = Some Bad
 unless_owner owner (Some e) = cond (is_owner owner e) None (Some Bad)
 
--- why an owner's update is refused where as many owners as the share may hold a line, these entries are live and the clock is so, or None where it is accepted
+-- Why an owner's update is refused where as many owners as the share may hold one line, these entries are live and the clock is so;
+-- or None where it is accepted.
 abbrev pub refusal_on : ℕ → List Entry → ℕ → ℕ → Update → Option Refusal
 refusal_on share live clock owner (Grant layout n image) = cond (has_room (granted live owner) layout n) None (Some NoRoom)
 refusal_on share live clock owner (Free base) = free_refusal (find (has_base base) (granted live owner))
@@ -86,11 +87,11 @@ refusal_on share live clock owner (Mask task) = cond (list_any (is_of owner (mas
 refusal_on share live clock owner (Unmask task) = cond (list_any (is_of owner (mask_key task)) live) None (Some Unheld)
 refusal_on share live clock owner (Clock now) = cond (ltb now clock) (Some Bad) None
 
--- why an owner's update is refused after a history, or None where the history allows it
+-- why an owner's update is refused after a history, by the share, or None where the history allows it
 abbrev pub refusal : ℕ → History → ℕ → Update → Option Refusal
 refusal share h owner update = refusal_on share (live_of h) (clock_of h) owner update
 
--- each entry is allowed by the entries before it
+-- by this share each entry is allowed by the entries before it
 abbrev pub IsLawful : ℕ → History → Type 0
 IsLawful share [] = Unit {0}
 IsLawful share (e ∷ h) = (refusal share h e.owner e.update ≡ None) × IsLawful share h
@@ -118,7 +119,8 @@ is_of_driver (Unmask task) = ltb task 9
 is_of_driver (Clock now) = false
 is_of_driver _ = true
 
--- the condition under which an owner's update is ever asked for: the owner is the kernel or one of the drivers 1 to 4, and the update is one of its kind
+-- the condition under which an owner's update is ever asked for: the owner is the kernel or one of the drivers 1 to 4, and the update is
+-- one of its kind
 abbrev pub is_proper : ℕ → Update → Bool
 is_proper owner update = cond (eqb owner 0) (is_of_kernel update) (ltb owner 5 && is_of_driver update)
 

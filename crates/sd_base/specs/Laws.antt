@@ -5,7 +5,8 @@ use Rattle.sd_base.specs.Allowed.{IsLawful, IsProper}
 
 -- whatever one driver held never decides whether another owner's past updates were allowed
 abbrev pub LawfulWithoutOwner : Type 0
-LawfulWithoutOwner = (share : ℕ) (h : History) (owner : ℕ) → owner ≢ 0 → IsProper h → IsLawful share h → IsLawful share (Without h owner)
+LawfulWithoutOwner =
+    (share : ℕ) (h : History) (owner : ℕ) → owner ≢ 0 → IsProper h → IsLawful share h → IsLawful share (Without h owner)
 
 -- to leave one owner out takes nothing from another owner's net list
 abbrev pub NetListsStay : Type 0

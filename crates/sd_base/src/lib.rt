@@ -23,6 +23,3 @@ pub use steps::Steps;
 
 /// Want of memory: the one refusal that any call that allocates may give, and that no clause ties to a cause.
 pub type Memory = std::alloc::AllocError;
-
-#[cfg(test)]
-mod tests;

@@ -4,6 +4,8 @@
 pub const FILE_BYTES: usize = 1_048_576;
 /// The drivers of one run.
 pub const DRIVERS: usize = 4;
+/// The owners of what the kernel's tables have: the kernel, which is 0, and the drivers.
+pub const OWNERS: usize = DRIVERS + 1;
 /// The bytes of a driver's arena.
 pub const ARENA_BYTES: u32 = 1_048_576;
 /// The first bytes of an arena, which are never granted, so that no object stands at null.
@@ -40,6 +42,14 @@ pub const STRUCT_BYTES: u32 = 65_536;
 pub const IMAGE_END: u32 = 524_288;
 /// The interrupt lines, numbered from 0.
 pub const LINES: i32 = 64;
+/// The ports, numbered from 0.
+pub const PORTS: u32 = 65_536;
+/// The numbers that a device may have, from 0.
+pub const DEVICE_NUMBERS: u16 = 1_024;
+/// The numbers that a parameter may have, from 0.
+pub const PARAMETER_NUMBERS: u16 = 256;
+/// The numbers that an owner's timer may have, from 0.
+pub const TIMER_NUMBERS: u16 = 256;
 /// The locks, numbered from 0.
 pub const LOCKS: i32 = 64;
 /// The power domains, numbered from 0.

@@ -9,12 +9,12 @@ use Rattle.sd_base.specs.declared.history.BlockState.TheVariants.{Freed}
 use Rattle.sd_base.specs.declared.history.Update.{Update}
 use Rattle.sd_base.specs.declared.history.Update.TheVariants.{Grant, Free, Line, Ports, Device, Param, Timer, Lock, Hold, Work, Taken, Mask, Clock}
 use Rattle.sd_base.specs.Selection.{without_first}
-use Rattle.sd_base.specs.History.{Entry, entry, History, OfBlocks, OfFrees, Key, same_resource, free_key, live_key, key_of, is_owner, is_of, after_entry, live_of, Without}
+use Rattle.sd_base.specs.History.{Entry, entry, History, OfBlocks, OfFrees, Key, same_resource, free_key, live_key, key_of, is_owner, is_of, after_entry, live_of}
 use Rattle.sd_base.specs.Blocks.{Block, round_up, next_base, count_of, first_state, has_base, with_state, blocks_after, granted, is_freed}
 use Rattle.sd_base.proofs.Counting.{reverse-cons}
 use Rattle.sd_base.proofs.Removal.{list_any-reverse}
-use Rattle.sd_base.proofs.Live.{is_of-resource, apart-same, live_of-Without}
-use Rattle.sd_base.proofs.Granted.{leaves, granted-without_first_other, granted-without_last_other, granted-Without, granted-Without_same}
+use Rattle.sd_base.proofs.Live.{is_of-resource, apart-same}
+use Rattle.sd_base.proofs.Granted.{leaves, granted-without_first_other, granted-without_last_other}
 use Rattle.grant_table.specs.declared.blocks.BlockRow.{BlockRow}
 use Rattle.grant_table.specs.BlockRows.{row_end, next_base_of, row_has_base, with_state_of}
 use Rattle.grant_table.specs.GrantPart.{block_row, rows_of, HoldsGrants}
@@ -166,13 +166,6 @@ others_kept t by u live quiet h = record {
   rows = λ owner few.
       h.rows owner few ∙ ap rows_of (sym (granted-after_entry owner by u live ∙ ap (λ bs. cond (eqb by owner) bs (granted live owner)) (quiet (granted live owner)) ∙ either (eqb by owner) (granted live owner)));
 }
-
--- an owner is left out
-pub owner_goes : (t : List (List BlockRow)) (h : History) (owner : ℕ) → length t ≡ 5 → owner ≤ 4 → HoldsGrants t (live_of h) → HoldsGrants (set t owner []) (live_of (Without h owner))
-owner_goes t h owner five few holds =
-    subst (HoldsGrants (set t owner [])) (sym (live_of-Without h owner))
-    (set_rows t (live_of h) (Without (live_of h) owner) owner [] five few holds (sym (ap rows_of (granted-Without_same (live_of h) owner)))
-    (λ other apart. granted-Without (live_of h) owner other (grind (arith, nat_tests))))
 
 -- whether the block of a base was given back
 abbrev pub is_freed_block : Option Block → Bool

@@ -6,7 +6,7 @@ use Rattle.sd_base.specs.declared.history.BlockState.TheVariants.{Live, Freed as
 use Rattle.sd_base.specs.declared.history.Layout.{Layout}
 use Rattle.sd_base.specs.declared.history.Update.TheVariants.{Grant, Free}
 use Rattle.sd_base.specs.Selection.{without_first}
-use Rattle.sd_base.specs.History.{Entry, entry, block_key, free_key, is_of, live_of, clock_of, Without}
+use Rattle.sd_base.specs.History.{Entry, entry, block_key, free_key, is_of, live_of, clock_of}
 use Rattle.sd_base.specs.Blocks.{Block, next_base, count_of, first_state, has_base, granted, has_room, is_image, is_freed}
 use Rattle.sd_base.specs.Allowed.{free_refusal, refusal_on}
 use Rattle.sd_base.specs.Part.{Serves, Loses}
@@ -18,7 +18,7 @@ use Rattle.grant_table.specs.declared.blocks.ReleaseRefusal.TheVariants.{NotBloc
 use Rattle.grant_table.specs.BlockRows.{next_base_of, base_for, block_row_of, with_state_of, release_of, release_answer, is_freed_row, is_freed_at}
 use Rattle.grant_table.specs.GrantPart.{block_row, rows_of, HoldsGrants, no_room, not_released, OfEachHistory}
 use Rattle.grant_table.proofs.GrantedBlocks.{granted_stack, granted_own, granted_others, granted-without_of, granted-without_block, granted-without_free, WasFreed}
-use Rattle.grant_table.proofs.GrantPartKept.{rows_push, next_rows, length_rows, find_rows, state_rows, take_rows, set_rows, granted-live_of, owner_goes, is_freed_block, never_freed}
+use Rattle.grant_table.proofs.GrantPartKept.{rows_push, next_rows, length_rows, find_rows, state_rows, take_rows, set_rows, granted-live_of, is_freed_block, never_freed}
 
 room_rule : (bs : List Block) (layout : Layout) (n : ℤ) → no_room (base_for (rows_of bs) layout.size n) ≡ cond (has_room bs layout n) None (no_room None)
 room_rule bs layout (pos n) = grind (arith, next_rows bs, length_rows bs)

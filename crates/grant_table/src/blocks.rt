@@ -159,11 +159,4 @@ impl Blocks {
     {
         let _ = self.rows.pop();
     }
-
-    /// Takes away all blocks.
-    pub fn clear(&mut self)
-        ensures { self.new ≡ [] }
-    {
-        self.rows.clear();
-    }
 }

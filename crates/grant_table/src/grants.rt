@@ -9,6 +9,7 @@ ghost use Rattle.grant_table.specs.BlockRows.{base_for, block_row_of, release_an
 ghost use Rattle.grant_table.specs.GrantPart.{HoldsGrants, no_room, not_released, OfEachHistory};
 
 use crate::blocks::{BlockRow, Blocks, ReleaseRefusal};
+use sd_base::limits::OWNERS;
 use sd_base::{BlockState, Layout, Memory, Steps};
 use std::alloc::Global;
 use std::marker::Model;
@@ -17,7 +18,7 @@ use std::sync::ledger::Ledger;
 /// The blocks of each owner, from the kernel, which is 0, to the driver 4.
 #[derive(Drop)]
 pub struct Grants {
-    owners: [Blocks; 5],
+    owners: [Blocks; OWNERS],
 }
 
 impl Model for Grants {

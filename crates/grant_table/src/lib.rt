@@ -9,6 +9,4 @@ mod grants;
 
 pub use blocks::{BlockRow, ReleaseRefusal};
 pub use grants::Grants;
-
-#[cfg(test)]
-mod tests;
+pub use sd_base::{BlockState, Layout};

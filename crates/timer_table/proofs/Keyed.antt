@@ -2,11 +2,11 @@
 use Rattle.std.proofs.Common.{◌≡◌, ◌≢◌, ℕ, zero, suc, length, get_or, set, ◌+◌, ◌<◌, ◌≤◌, Bool, true, false, cond, not, eqb, List, [], ◌∷◌, Option, Some, None, refl, ap, sym, ◌∙◌, subst, arith, get_or-set_same, get_or-set_other}
 use Rattle.std.proofs.lemmas.Bool.Decides.{nat_tests}
 use Rattle.std.proofs.lemmas.List.Edits.{length-remove}
-use Rattle.std.proofs.lemmas.List.Sums.{sum_by-insert, sum_by-remove}
+use Rattle.std.proofs.lemmas.List.Sums.{sum_by-remove}
 use Rattle.std.proofs.lemmas.Option.{slice_get_past}
 use Rattle.std.specs.Prelude.{is_some, count_by, slice_get}
 use Rattle.std.specs.List.{insert, remove, list_any, filter_map}
-use Rattle.slab.specs.Slab.{Slab, get, slab_len, Updates, with_value}
+use Rattle.slab.specs.Slab.{Slab, get, Updates, with_value}
 use Rattle.sd_base.proofs.Counting.{count_by-cons}
 use Rattle.sd_base.proofs.Single.{count_by-some}
 use Rattle.timer_table.specs.Keys.{HoldsEach}
@@ -14,10 +14,6 @@ use Rattle.timer_table.specs.Keys.{HoldsEach}
 -- nothing lies under the key
 abbrev is_bare : {T : Type 0} → (ℕ → Option T) → ℕ → Bool
 is_bare f key = not (is_some (f key))
-
-is_some-is : {T : Type 0} (o : Option T) → is_some o ≡ true → (x : T) × (o ≡ Some x)
-is_some-is None h = cc
-is_some-is (Some x) h = (x, refl)
 
 -- with something under each key, the places of the keys are those of what lies under them
 slice_get-filter_map : {T : Type 0} (f : ℕ → Option T) (keys : List ℕ) (i d : ℕ) → list_any (is_bare f) keys ≡ false → i < length keys →
@@ -141,9 +137,6 @@ rows_length slots keys holds = length-filter_map (get slots) keys (none_bare slo
 once-none : {T : Type 0} (slots : Slab T) (keys : List ℕ) (key : ℕ) → HoldsEach slots keys → get slots key ≡ None → count_by (λ k. eqb k key) keys ≡ 0
 once-none slots keys key holds bare = holds.once key ∙ ap (λ o. cond (is_some o) 1 0) bare
 
-count_by-insert : (p : ℕ → Bool) (keys : List ℕ) (i key : ℕ) → count_by p (insert keys i key) ≡ count_by p keys + cond (p key) 1 0
-count_by-insert p keys i key = sum_by-insert (λ k. cond (p k) 1 0) keys i key
-
 count_by-remove : (p : ℕ → Bool) (keys : List ℕ) (i d : ℕ) → i < length keys → count_by p (remove keys i) + cond (p (get_or keys i d)) 1 0 ≡ count_by p keys
 count_by-remove p keys i d h = sum_by-remove (λ k. cond (p k) 1 0) keys i d h
 
@@ -186,15 +179,6 @@ replaced slots key x h =
       changed = get_or-set_same slots.slots key (Some x) None within;
       others = λ other apart. get_or-set_other slots.slots key other (Some x) None apart;
     }
-
-slab_len-replaced : {T : Type 0} (slots : Slab T) (key : ℕ) (x : T) → is_some (get slots key) ≡ true → slab_len (with_value slots key x) ≡ slab_len slots
-slab_len-replaced slots key x h =
-    let within = within_slots slots.slots key h in
-    let less = sum_by-remove (λ o. cond (is_some o) 1 0) slots.slots key None within in
-    let more = sum_by-insert (λ o. cond (is_some o) 1 0) (remove slots.slots key) key (Some x) in
-    let same : count_by is_some (set slots.slots key (Some x)) ≡ count_by is_some (insert (remove slots.slots key) key (Some x)) =
-    ap (count_by is_some) (set-insert_remove slots.slots key (Some x) within) in
-    grind arith
 
 -- a value put in the stead of the one under a listed key
 pub rows_replace : {T : Type 0} (slots : Slab T) (keys : List ℕ) (i key : ℕ) (x : T) → HoldsEach slots keys → i < length keys → get_or keys i key ≡ key →

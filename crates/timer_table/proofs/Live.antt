@@ -7,14 +7,14 @@ use Rattle.sd_base.specs.declared.history.Update.TheVariants.{Timer, DelTimer, F
 use Rattle.sd_base.specs.declared.history.Refusal.{Refusal}
 use Rattle.sd_base.specs.declared.history.Refusal.TheVariants.{Bad, Full}
 use Rattle.sd_base.specs.Selection.{without_first, is_below, passes}
-use Rattle.sd_base.specs.History.{Entry, OfTimers, Key, same_resource, key_of, timer_key, live_key, entry, is_owner, is_of, is_of_kind, after_entry, live_of, Without}
+use Rattle.sd_base.specs.History.{Entry, OfTimers, Key, same_resource, key_of, timer_key, live_key, entry, is_owner, is_of, is_of_kind, after_entry, live_of}
 use Rattle.sd_base.specs.Part.{Serves, Loses}
-use Rattle.sd_base.proofs.Rows.{filter_map-without_first, list_any-filter_map, count_by-filter_map, filter_map-filter}
-use Rattle.sd_base.proofs.Live.{rows-after_entry_other, rows-without_other, live_of-Without}
+use Rattle.sd_base.proofs.Rows.{filter_map-without_first, list_any-filter_map, count_by-filter_map}
+use Rattle.sd_base.proofs.Live.{rows-after_entry_other, rows-without_other}
 use Rattle.timer_table.specs.declared.fired.Fired.{Fired}
 use Rattle.timer_table.specs.Order.{is_timer, is_owner's, insert_row, by_owner_and_id, timer_row_of, timer_row, timers_of}
-use Rattle.timer_table.specs.Table.{HoldsTimers, set_refusal, del_refusal, with_timer, without_timer, without_owner}
-use Rattle.timer_table.proofs.Sorting.{list_any-by_owner_and_id, count_by-by_owner_and_id, by_owner_and_id-without_first, by_owner_and_id-filter}
+use Rattle.timer_table.specs.Table.{HoldsTimers, set_refusal, del_refusal, with_timer, without_timer}
+use Rattle.timer_table.proofs.Sorting.{list_any-by_owner_and_id, count_by-by_owner_and_id, by_owner_and_id-without_first}
 
 same_of : (owner : ℕ) (id : ℤ) (by : ℕ) (u : Update) → is_of owner (timer_key id) (entry by u) ≡ passes (is_timer owner id) (timer_row_of by u)
 same_of owner id by (Timer i due handler arg) = grind arith
@@ -63,11 +63,6 @@ pub timers-without : (owner : ℕ) (id : ℤ) (live : List Entry) → timers_of 
 timers-without owner id live =
     ap by_owner_and_id (filter_map-without_first timer_row (is_of owner (timer_key id)) (is_timer owner id) (same owner id) live)
     ∙ by_owner_and_id-without_first owner id (filter_map timer_row live)
-
-pub timers-Without : (owner : ℕ) (live : List Entry) → timers_of (Without live owner) ≡ without_owner owner (timers_of live)
-timers-Without owner live =
-    ap by_owner_and_id (filter_map-filter timer_row (λ e. not (is_owner owner e)) (λ row. not (is_owner's owner row)) (kept owner) live)
-    ∙ by_owner_and_id-filter (λ row. not (is_owner's owner row)) (filter_map timer_row live)
 
 abbrev pub row_of : ℕ → ℤ → ℕ → ℕ → ℤ → Fired
 row_of owner id due handler arg = record { owner = owner; id = id; due = due; handler = handler; arg = arg }

@@ -19,9 +19,6 @@ use Rattle.timer_table.specs.Table.{is_astray, IsAscending, place_in}
 before-itself : (owner : ℕ) (id : ℤ) (x : Fired) → is_timer owner id x ≡ true → comes_before owner id x ≡ false
 before-itself owner id x h = grind (arith, nat_tests, ints)
 
-before-through : (owner : ℕ) (id : ℤ) (x y : Fired) → comes_before owner id y ≡ true → comes_before y.owner y.id x ≡ true → comes_before owner id x ≡ true
-before-through owner id x y h k = grind (arith, nat_tests, ints)
-
 -- what is not before y, which is not before the place, is not before the place
 not_before-through : (owner : ℕ) (id : ℤ) (x y : Fired) → comes_before owner id y ≡ false → comes_before y.owner y.id x ≡ false → comes_before owner id x ≡ false
 not_before-through owner id x y h k = grind (arith, nat_tests, ints)
@@ -102,10 +99,6 @@ pub count_by-insert_row : (p : Fired → Bool) (x : Fired) (rows : List Fired) �
 count_by-insert_row p x [] = count_by-cons p x []
 count_by-insert_row p x (y ∷ ys) =
     grind (arith, count_by-cons p x (y ∷ ys), count_by-cons p y ys, count_by-cons p y (insert_row x ys), count_by-insert_row p x ys)
-
-pub length-insert_row : (x : Fired) (rows : List Fired) → length (insert_row x rows) ≡ length rows + 1
-length-insert_row x [] = refl
-length-insert_row x (y ∷ ys) = grind (arith, length-insert_row x ys)
 
 pub IsAscending-insert_row : (x : Fired) (rows : List Fired) → IsAscending rows → IsAscending (insert_row x rows)
 IsAscending-insert_row x [] up = (refl, tt)

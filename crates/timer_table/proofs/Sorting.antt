@@ -1,10 +1,10 @@
 -- Timers put in order, against removals, filters and counts of the list that they came from.
 use Rattle.std.proofs.Common.{◌≡◌, ℕ, ◌+◌, Bool, true, false, cond, ◌||◌, List, [], ◌∷◌, ℤ, refl, ap, sym, ◌∙◌, arith}
 use Rattle.std.specs.Prelude.{count_by}
-use Rattle.std.specs.List.{list_any, filter}
+use Rattle.std.specs.List.{list_any}
 use Rattle.sd_base.specs.Selection.{without_first}
 use Rattle.sd_base.proofs.Counting.{count_by-cons}
-use Rattle.sd_base.proofs.Removal.{list_any-without_first, list_any-filter_none}
+use Rattle.sd_base.proofs.Removal.{list_any-without_first}
 use Rattle.timer_table.specs.declared.fired.Fired.{Fired}
 use Rattle.timer_table.specs.Order.{is_timer, comes_before, insert_row, by_owner_and_id}
 use Rattle.timer_table.specs.Table.{IsAscending}
@@ -61,27 +61,4 @@ by_owner_and_id-without_first owner id (x ∷ xs) =
       | false ↦ λ is.
           ap (insert_row x) (by_owner_and_id-without_first owner id xs)
           ∙ sym (without_first-other (is_timer owner id) x (by_owner_and_id xs) is (IsAscending-by_owner_and_id xs))
-    ] refl
-
-filter-kept : (q : Fired → Bool) (x : Fired) (rows : List Fired) → q x ≡ true → IsAscending rows → filter q (insert_row x rows) ≡ insert_row x (filter q rows)
-filter-kept q x [] h up = grind arith
-filter-kept q x (y ∷ ys) h up =
-    elim (comes_before x.owner x.id y) as (λ b. comes_before x.owner x.id y ≡ b → filter q (cond b (y ∷ insert_row x ys) (x ∷ y ∷ ys)) ≡ insert_row x (filter q (y ∷ ys))) [
-      | true ↦ λ is. grind (arith, filter-kept q x ys h up.1)
-      | false ↦ λ is. (
-          let none : list_any (comes_before x.owner x.id) (y ∷ ys) ≡ false = (let rest = none-after x.owner x.id y ys is up.0 in grind arith) in
-          let front = insert_row-front x (filter q (y ∷ ys)) (list_any-filter_none q (comes_before x.owner x.id) (y ∷ ys) none) in
-          grind arith)
-    ] refl
-
-filter-dropped : (q : Fired → Bool) (x : Fired) (rows : List Fired) → q x ≡ false → filter q (insert_row x rows) ≡ filter q rows
-filter-dropped q x [] h = grind arith
-filter-dropped q x (y ∷ ys) h = grind (arith, filter-dropped q x ys h)
-
-pub by_owner_and_id-filter : (q : Fired → Bool) (xs : List Fired) → by_owner_and_id (filter q xs) ≡ filter q (by_owner_and_id xs)
-by_owner_and_id-filter q [] = refl
-by_owner_and_id-filter q (x ∷ xs) =
-    elim (q x) as (λ b. q x ≡ b → by_owner_and_id (cond b (x ∷ filter q xs) (filter q xs)) ≡ filter q (insert_row x (by_owner_and_id xs))) [
-      | true ↦ λ is. ap (insert_row x) (by_owner_and_id-filter q xs) ∙ sym (filter-kept q x (by_owner_and_id xs) is (IsAscending-by_owner_and_id xs))
-      | false ↦ λ is. by_owner_and_id-filter q xs ∙ sym (filter-dropped q x (by_owner_and_id xs) is)
     ] refl

@@ -1,6 +1,6 @@
 -- The table of timers: what it keeps to, and the history of which it holds its part.
-use Rattle.std.specs.Prelude.{cond, ◌&&◌, Option, Some, None, Result, Ok, Err, ◌≡◌, ℕ, ◌≤◌, Bool, false, not, ◌||◌, ltb, List, [], ◌∷◌, ℤ, pos, int_lt, count_by}
-use Rattle.std.specs.List.{list_any, filter, Contains}
+use Rattle.std.specs.Prelude.{cond, ◌&&◌, Option, Some, None, Result, Ok, Err, ◌≡◌, ℕ, ◌≤◌, Bool, false, ◌||◌, ltb, List, [], ◌∷◌, ℤ, pos, int_lt, count_by}
+use Rattle.std.specs.List.{list_any, Contains}
 use Rattle.sd_base.specs.declared.history.Refusal.{Refusal}
 use Rattle.sd_base.specs.declared.history.Refusal.TheVariants.{Bad, Full}
 use Rattle.sd_base.specs.Selection.{is_below, without_first}
@@ -68,10 +68,6 @@ without_timer owner id rows = without_first (is_timer owner id) rows
 -- the timers with this one, in the stead of one of its owner and id
 abbrev pub with_timer : Fired → List Fired → List Fired
 with_timer row rows = insert_row row (without_timer row.owner row.id rows)
-
--- the timers of all others
-abbrev pub without_owner : ℕ → List Fired → List Fired
-without_owner owner rows = filter (λ row. not (is_owner's owner row)) rows
 
 -- This timer is one of them and due, and none that is due fires before it.
 pub record IsNext (now : ℕ) (rows : List Fired) (row : Fired) : Type 0 where

@@ -1,14 +1,14 @@
-//! What is done to timers by owner and id: one is put in, one is taken out, an owner's are all taken out.
+//! What is done to timers by owner and id: one is put in, one is taken out.
 ghost use Rattle.std.specs.Prelude.{◌≡◌, ◌≤◌, OnOk, OnErr};
 ghost use Rattle.std.specs.List.{list_any};
 ghost use Rattle.timer_table.specs.Order.{is_timer, next_of};
-ghost use Rattle.timer_table.specs.Table.{IsTable, refusal_of, set_refusal, with_timer, without_owner, without_timer};
+ghost use Rattle.timer_table.specs.Table.{IsTable, refusal_of, set_refusal, with_timer, without_timer};
 
 use crate::Fired;
-use crate::places::{count_of, find, first_of};
+use crate::places::{count_of, find};
 use crate::refusal::TimerRefusal;
 use crate::rows::Rows;
-use sd_base::limits::TIMERS;
+use sd_base::limits::{TIMER_NUMBERS, TIMERS};
 use sd_base::number_below;
 
 /// Puts a timer in its place, in the stead of the one of its owner and id.
@@ -20,7 +20,7 @@ pub fn put(rows: &mut Rows, row: Fired) -> Result<(), TimerRefusal>
     ensures err { OnErr result (rows.new ≡ rows.old) }
     ensures table { IsTable rows.new }
 {
-    if number_below(row.id, 256).is_none() {
+    if number_below(row.id, TIMER_NUMBERS).is_none() {
         return Err(TimerRefusal::Bad);
     }
     match find(rows, row.owner, row.id) {
@@ -50,21 +50,6 @@ pub fn take_out(rows: &mut Rows, owner: u8, id: i32) -> bool
     };
     rows.remove(place);
     true
-}
-
-/// Takes all of an owner's timers out.
-pub fn take_all_out(rows: &mut Rows, owner: u8)
-    requires { IsTable rows.old }
-    ensures others { rows.new ≡ without_owner owner rows.old }
-    ensures table { IsTable rows.new }
-{
-    let place = first_of(rows, owner);
-    while let Some(row) = rows.get(place) {
-        if row.owner != owner {
-            return;
-        }
-        take_out(rows, owner, row.id);
-    }
 }
 
 /// The timer to fire next of those that are due.

@@ -11,6 +11,3 @@ mod timers;
 pub use fired::Fired;
 pub use refusal::TimerRefusal;
 pub use timers::Timers;
-
-#[cfg(test)]
-mod tests;

@@ -1,5 +1,5 @@
 //! Where a timer stands among timers by owner and id.
-ghost use Rattle.std.specs.Prelude.{◌≡◌, ◌≤◌, false, pos, is_ok, count_by};
+ghost use Rattle.std.specs.Prelude.{◌≡◌, ◌≤◌, false, is_ok, count_by};
 ghost use Rattle.std.specs.List.{list_any};
 ghost use Rattle.timer_table.specs.Order.{is_owner's, is_timer};
 ghost use Rattle.timer_table.specs.Table.{IsAscending, is_astray, place_in, place_found};
@@ -38,14 +38,6 @@ pub fn find(rows: &Rows, owner: u8, id: i32) -> Result<usize, usize>
         Some(row) if row.is_timer(owner, id) => Ok(place),
         _ => Err(place),
     }
-}
-
-/// Where the owner's timers begin.
-pub fn first_of(rows: &Rows, owner: u8) -> usize
-    requires { IsAscending rows.now }
-    ensures { result ≡ place_in rows.now owner (pos 0) }
-{
-    place_of(rows, owner, 0)
 }
 
 /// How many timers an owner has.

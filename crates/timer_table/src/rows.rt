@@ -4,12 +4,13 @@ ghost use Rattle.std.specs.List.{insert, remove};
 
 use crate::Fired;
 use arrayvec::ArrayVec;
+use sd_base::limits::{OWNERS, TIMERS};
 use slab::Slab;
 use std::alloc::{AllocError, Global};
 use std::marker::Model;
 
 /// How many timers there may be: 64 of each of 5 owners.
-pub const ROWS: usize = 320;
+pub const ROWS: usize = OWNERS * TIMERS;
 
 /// At most 320 timers, in order. No call after `new` takes memory.
 #[derive(Drop)]

@@ -5,7 +5,7 @@ use Rattle.std.specs.List.{list_any, filter, count_by}
 use Rattle.sd_base.proofs.Counting.{count_by-cons, count_by-filter_le, count_below-all, count_below-le}
 use Rattle.sd_base.proofs.Removal.{list_any-wider, list_any-filter_none}
 use Rattle.claim_table.specs.declared.claim.Claim.{Claim}
-use Rattle.claim_table.specs.Ordered.{is_owned, is_claim, is_not_claim, has_number, insert_claim, FewOfEach}
+use Rattle.claim_table.specs.Ordered.{is_owned, is_claim, is_not_claim, insert_claim, FewOfEach}
 use Rattle.claim_table.specs.ClaimCalls.{is_taken}
 use Rattle.claim_table.proofs.InOrder.{list_any-insert, count_by-insert}
 

@@ -1,19 +1,16 @@
 -- How an entry changes the table's part: entries of other kinds leave it, a claim comes in, a claim goes.
-use Rattle.std.proofs.Common.{◌≡◌, ℕ, false, not, eqb, List, ℤ, pos, negsuc, Option, Some, refl, ap, sym, ◌∙◌, subst}
-use Rattle.std.specs.List.{filter, filter_map}
-use Rattle.sd_base.specs.declared.history.Update.{Update}
+use Rattle.std.proofs.Common.{◌≡◌, ℕ, false, List, ℤ, pos, refl, ap, sym, ◌∙◌}
+use Rattle.std.specs.List.{filter_map}
 use Rattle.sd_base.specs.declared.history.Update.TheVariants.{Line, Ports, Device, Param}
 use Rattle.sd_base.specs.Selection.{without_first}
-use Rattle.sd_base.specs.History.{Entry, entry, same_resource, OfLines, OfPorts, OfDevices, OfParams, line_key, ports_key, device_key, param_key, key_of, is_of, after_entry, is_owner, Without, History, live_of}
+use Rattle.sd_base.specs.History.{Entry, entry, same_resource, OfLines, OfPorts, OfDevices, OfParams, line_key, ports_key, device_key, param_key, key_of, is_of, after_entry}
 use Rattle.sd_base.specs.Sound.{IsSound}
-use Rattle.sd_base.proofs.Live.{rows-after_entry_other, rows-without_other, live_of-Without}
-use Rattle.sd_base.proofs.Rows.{filter_map-filter}
+use Rattle.sd_base.proofs.Live.{rows-after_entry_other, rows-without_other}
 use Rattle.claim_table.specs.declared.claim.Claim.{Claim}
-use Rattle.claim_table.specs.Ordered.{is_not_owned, is_claim, insert_claim, in_order}
+use Rattle.claim_table.specs.Ordered.{is_claim, insert_claim, in_order}
 use Rattle.claim_table.specs.ClaimRows.{ClaimRows, claim, is_range_claim}
 use Rattle.claim_table.specs.ClaimCalls.{with_line, without_line, with_ports, without_ports, with_device, without_device, with_param, without_param}
-use Rattle.claim_table.specs.ClaimPart.{line_row_of, line_row, ports_row_of, ports_row, device_row_of, device_row, param_row_of, param_row, HoldsClaims}
-use Rattle.claim_table.proofs.InOrder.{in_order-filter}
+use Rattle.claim_table.specs.ClaimPart.{line_row, ports_row, device_row, param_row, HoldsClaims}
 use Rattle.claim_table.proofs.Owned.{line_is, line_none, ports_is, ports_none, device_is, device_none, param_is, param_none}
 use Rattle.claim_table.proofs.Within.{gone}
 

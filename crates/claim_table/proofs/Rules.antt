@@ -73,10 +73,6 @@ param_count t live owner s h =
 none_out : (p : Entry → Bool) → ((e : Entry) → p e ≡ true → is_astray e ≡ true) → (live : List Entry) → IsSound live → list_any p live ≡ false
 none_out p out live s = list_any-wider is_astray p out live s.in_range
 
--- an answer by one test of what is held
-held_same : (a b : Bool) → a ≡ b → refused_as (if_held a) ≡ refused_as (if_held b)
-held_same a b same = ap (λ x. refused_as (if_held x)) same
-
 -- the rules
 
 pub line_rule : (t : ClaimRows) (live : List Entry) (clock owner : ℕ) (line : ℤ) (handler : ℕ) → HoldsClaims t live → refused_as (line_answer t owner line) ≡ refusal_on t.share live clock owner (Line line handler)

@@ -10,9 +10,6 @@ module _ {D : Type 0} where
   abbrev pub is_owned : ℕ → Claim D → Bool
   is_owned owner c = eqb c.owner owner
 
-  abbrev pub is_not_owned : ℕ → Claim D → Bool
-  is_not_owned owner c = not (eqb c.owner owner)
-
   -- the claim of this owner on this number
   abbrev pub is_claim : ℕ → ℕ → Claim D → Bool
   is_claim owner number c = eqb c.owner owner && eqb c.number number

@@ -2,6 +2,8 @@
 ghost use Rattle.std.specs.Prelude.{◌≡◌};
 ghost use Rattle.claim_table.specs.ClaimRows.{range_of};
 
+use sd_base::limits::PORTS;
+
 /// Who holds the thing of this number, and what goes with it: the handler of a line, the length of a range of ports, the value
 /// of a parameter, and nothing with a device.
 #[derive(Clone, Copy, PartialEq, Eq, Debug)]
@@ -27,7 +29,7 @@ pub(crate) struct PortRange {
 pub(crate) fn port_range(base: i32, n: i32) -> Option<PortRange>
     ensures { result ≡ range_of base n }
 {
-    if base < 0 || n < 1 || i64::from(base) + i64::from(n) > 65_536 {
+    if base < 0 || n < 1 || i64::from(base) + i64::from(n) > i64::from(PORTS) {
         return None;
     }
     Some(PortRange {

@@ -17,7 +17,7 @@ use crate::rows::{
     Rows, count_of, has_claim, has_number, has_port, has_range, is_taken, latest, meets_range,
     nth_of,
 };
-use sd_base::limits::{DEVICES, PARAMETERS, PORT_RANGES};
+use sd_base::limits::{DEVICE_NUMBERS, DEVICES, LINES, PARAMETER_NUMBERS, PARAMETERS, PORT_RANGES};
 use sd_base::{Memory, Steps, number_below};
 use std::alloc::Global;
 use std::marker::Model;
@@ -44,11 +44,7 @@ pub struct Holder {
 }
 
 /// The interrupt lines, numbered from 0.
-const LINES: u16 = 64;
-/// The devices, numbered from 0.
-const DEVICE_IDS: u16 = 1024;
-/// The parameters, numbered from 0.
-const PARAMETER_KEYS: u16 = 256;
+const LINE_NUMBERS: u16 = LINES as u16;
 
 /// Who holds which lines, ports, devices and parameters.
 #[derive(Drop)]
@@ -102,7 +98,7 @@ impl Claims {
         ensures err { OnErr result (self.new ≡ self.old) }
         ensures serves { ServesAt self.old.share HoldsClaims self.old owner (Line line handler) (refused_as result) self.new }
     {
-        let Some(number) = number_below(line, LINES) else {
+        let Some(number) = number_below(line, LINE_NUMBERS) else {
             return Err(ClaimRefusal::Bad);
         };
         if is_taken(self.share, owner, number, self.lines.as_slice()) {
@@ -123,7 +119,7 @@ impl Claims {
         ensures err { OnErr result (self.new ≡ self.old) }
         ensures serves { ServesAt self.old.share HoldsClaims self.old owner (FreeLine line) (refused_as result) self.new }
     {
-        let Some(number) = number_below(line, LINES) else {
+        let Some(number) = number_below(line, LINE_NUMBERS) else {
             return Err(ClaimRefusal::Bad);
         };
         if !has_claim(self.lines.as_slice(), owner, number) {
@@ -188,7 +184,7 @@ impl Claims {
         ensures err { OnErr result (self.new ≡ self.old) }
         ensures serves { ServesAt self.old.share HoldsClaims self.old owner (Device id) (refused_as result) self.new }
     {
-        let Some(number) = number_below(id, DEVICE_IDS) else {
+        let Some(number) = number_below(id, DEVICE_NUMBERS) else {
             return Err(ClaimRefusal::Bad);
         };
         if has_number(self.devices.as_slice(), number) {
@@ -212,7 +208,7 @@ impl Claims {
         ensures err { OnErr result (self.new ≡ self.old) }
         ensures serves { ServesAt self.old.share HoldsClaims self.old owner (DelDevice id) (refused_as result) self.new }
     {
-        let Some(number) = number_below(id, DEVICE_IDS) else {
+        let Some(number) = number_below(id, DEVICE_NUMBERS) else {
             return Err(ClaimRefusal::Bad);
         };
         if !has_claim(self.devices.as_slice(), owner, number) {
@@ -233,7 +229,7 @@ impl Claims {
         ensures err { OnErr result (self.new ≡ self.old) }
         ensures serves { ServesAt self.old.share HoldsClaims self.old owner (Param key value) (refused_as result) self.new }
     {
-        let Some(number) = number_below(key, PARAMETER_KEYS) else {
+        let Some(number) = number_below(key, PARAMETER_NUMBERS) else {
             return Err(ClaimRefusal::Bad);
         };
         let replaces = has_claim(self.params.as_slice(), owner, number);
@@ -256,7 +252,7 @@ impl Claims {
         ensures err { OnErr result (self.new ≡ self.old) }
         ensures serves { ServesAt self.old.share HoldsClaims self.old owner (ClearParam key) (refused_as result) self.new }
     {
-        let Some(number) = number_below(key, PARAMETER_KEYS) else {
+        let Some(number) = number_below(key, PARAMETER_NUMBERS) else {
             return Err(ClaimRefusal::Bad);
         };
         if !has_claim(self.params.as_slice(), owner, number) {
@@ -271,7 +267,7 @@ impl Claims {
         ensures value { result ≡ param_value self.now key }
         ensures reads { OfEachHistory self.now (λ h. result ≡ slice_get (values_of h key) 0) }
     {
-        let number = number_below(key, PARAMETER_KEYS)?;
+        let number = number_below(key, PARAMETER_NUMBERS)?;
         let claim = latest(self.params.as_slice(), number)?;
         Some(claim.detail)
     }
@@ -281,7 +277,7 @@ impl Claims {
         ensures value { result ≡ line_holder self.now line k }
         ensures reads { OfEachHistory self.now (λ h. result ≡ slice_get (holders_of h line) k) }
     {
-        let number = number_below(line, LINES)?;
+        let number = number_below(line, LINE_NUMBERS)?;
         let claim = nth_of(self.lines.as_slice(), number, k)?;
         Some(Holder {
             owner: claim.owner,
@@ -319,13 +315,6 @@ impl Claims {
         self.devices.as_slice()
     }
 
-    /// The values of parameters in order, those of one parameter in the order in which they were set.
-    pub fn params(&self) -> &[Claim<i32>]
-        ensures { result.now ≡ self.now.params }
-    {
-        self.params.as_slice()
-    }
-
     /// Of each parameter that has one the value that was set last, in order.
     pub fn latest_params(&self) -> &[Claim<i32>]
         ensures { result.now ≡ last_of_each self.now.params }
@@ -340,7 +329,7 @@ impl Claims {
         ensures loses { Loses HoldsClaims self.old owner (line_key line) self.new }
         ensures steps { steps.new ≡ steps.old + 1 }
     {
-        if let Some(number) = number_below(line, LINES) {
+        if let Some(number) = number_below(line, LINE_NUMBERS) {
             self.lines.drop_claim(owner, number);
             steps.tick();
         }
@@ -366,7 +355,7 @@ impl Claims {
         ensures loses { Loses HoldsClaims self.old owner (device_key id) self.new }
         ensures steps { steps.new ≡ steps.old + 1 }
     {
-        if let Some(number) = number_below(id, DEVICE_IDS) {
+        if let Some(number) = number_below(id, DEVICE_NUMBERS) {
             self.devices.drop_claim(owner, number);
             steps.tick();
         }
@@ -379,7 +368,7 @@ impl Claims {
         ensures loses { Loses HoldsClaims self.old owner (param_key key) self.new }
         ensures steps { steps.new ≡ steps.old + 1 }
     {
-        if let Some(number) = number_below(key, PARAMETER_KEYS) {
+        if let Some(number) = number_below(key, PARAMETER_NUMBERS) {
             self.params.drop_claim(owner, number);
             steps.tick();
         }

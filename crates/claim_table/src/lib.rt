@@ -12,6 +12,3 @@ mod rows;
 
 pub use claim::Claim;
 pub use claims::{ClaimRefusal, Claims, Holder};
-
-#[cfg(test)]
-mod tests;

@@ -1,7 +1,7 @@
 //! The values of parameters, and of each parameter the one that was set last.
 ghost use Rattle.std.specs.Prelude.{◌≡◌, ◌<◌, [], length, IfOk};
 ghost use Rattle.std.specs.List.{filter};
-ghost use Rattle.claim_table.specs.Ordered.{is_not_owned, is_not_claim, insert_claim, last_of_each};
+ghost use Rattle.claim_table.specs.Ordered.{is_not_claim, insert_claim, last_of_each};
 
 use crate::Claim;
 use crate::rows::Rows;
@@ -68,14 +68,6 @@ impl Params {
         ensures { self.new ≡ filter (is_not_claim owner number) self.old }
     {
         self.values.drop_claim(owner, number);
-        self.latest.take_latest(&self.values);
-    }
-
-    /// Takes away all values of an owner.
-    pub fn drop_owner(&mut self, owner: u8)
-        ensures { self.new ≡ filter (is_not_owned owner) self.old }
-    {
-        self.values.drop_owner(owner);
         self.latest.take_latest(&self.values);
     }
 }

@@ -1,7 +1,7 @@
 //! Ranges of ports.
 ghost use Rattle.std.specs.Prelude.{◌≡◌, ◌<◌, ◌≤◌, [], false, length, IfOk};
 ghost use Rattle.std.specs.List.{list_any, filter};
-ghost use Rattle.claim_table.specs.Ordered.{is_not_owned, insert_claim};
+ghost use Rattle.claim_table.specs.Ordered.{insert_claim};
 ghost use Rattle.claim_table.specs.ClaimRows.{is_wide, is_not_range_claim};
 
 use crate::Claim;
@@ -61,12 +61,5 @@ impl Ranges {
         ensures { self.new ≡ filter (is_not_range_claim owner base n) self.old }
     {
         self.rows.drop_range(owner, base, n);
-    }
-
-    /// Takes away all ranges of an owner.
-    pub fn drop_owner(&mut self, owner: u8)
-        ensures { self.new ≡ filter (is_not_owned owner) self.old }
-    {
-        self.rows.drop_owner(owner);
     }
 }

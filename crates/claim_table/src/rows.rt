@@ -2,17 +2,21 @@
 ghost use Rattle.std.specs.Prelude.{◌≡◌, ◌<◌, ◌≤◌, [], List, length, IfOk, slice_get};
 ghost use Rattle.std.specs.List.{list_any, filter, count_by};
 ghost use Rattle.sd_base.specs.Selection.{find_last};
-ghost use Rattle.claim_table.specs.Ordered.{begins_with, has_number, is_owned, is_not_owned, is_claim, is_not_claim, insert_claim, last_of_each};
+ghost use Rattle.claim_table.specs.Ordered.{begins_with, has_number, is_owned, is_claim, is_not_claim, insert_claim, last_of_each};
 ghost use Rattle.claim_table.specs.ClaimCalls.{is_taken};
 ghost use Rattle.claim_table.specs.ClaimRows.{range_meets, is_range_claim, is_not_range_claim, covers};
 
 use crate::Claim;
 use sd_base::Memory;
+use sd_base::limits::LINES;
 use std::alloc::Global;
 use std::marker::Model;
 
-/// The claims of one kind that can stand beside each other: 160 of ports, devices and parameters, 4 of each of 64 lines.
-const ROOM: usize = 256;
+/// The greatest share: how many owners may hold one line.
+const MOST_HOLDERS: usize = 4;
+
+/// The claims of one kind that can stand beside each other: 4 of each of 64 lines, and 160 of ports, devices or parameters.
+const ROOM: usize = LINES as usize * MOST_HOLDERS;
 
 /// Claims in the order of their numbers, those of one number in the order of their making.
 #[derive(Drop)]
@@ -83,13 +87,6 @@ impl<D: Copy> Rows<D> {
     {
         self.claims
             .retain(|c| !(c.owner == owner && c.number == number));
-    }
-
-    /// Takes away all claims of an owner.
-    pub fn drop_owner(&mut self, owner: u8)
-        ensures { self.new ≡ filter (is_not_owned owner) self.old }
-    {
-        self.claims.retain(|c| c.owner != owner);
     }
 }
 

@@ -12,7 +12,6 @@ use Rattle.sd_base.specs.declared.history.Refusal.{Refusal}
 use Rattle.sd_base.specs.declared.history.Refusal.TheVariants.{Bad, Full, Unheld}
 use Rattle.sd_base.specs.declared.history.Update.TheVariants.{Lock, Unlock, Hold, DropHold, Mask, Unmask, Work as Queues}
 use Rattle.sd_base.specs.Selection.{is_below, passes, without_last}
-use Rattle.sd_base.specs.Numbers.{number_of}
 use Rattle.sd_base.specs.History.{Entry, lock_key, mask_key, hold_key, work_key, has_key}
 use Rattle.sd_base.specs.Sound.{IsSound}
 use Rattle.share_table.proofs.Readings.{masked-is, held-is, domain-is}
@@ -23,12 +22,10 @@ use Rattle.share_table.specs.Answers.{refusal_of_share}
 use Rattle.share_table.specs.Locks.{lock_at, HoldsLocks, is_who, has_holder, takes_lock}
 use Rattle.share_table.specs.Masks.{mask_at, HoldsMasks, any_held, is_mask}
 use Rattle.share_table.specs.Holds.{holds_at, HoldsHolds, IsCounts, held_by_all}
-use Rattle.share_table.specs.Queue.{is_owned, put_refusal, IsQueue, others}
+use Rattle.share_table.specs.Queue.{is_owned, put_refusal, IsQueue}
 use Rattle.share_table.specs.Rows.{ShareRows}
 use Rattle.share_table.specs.Table.{HoldsShares, TakesFront}
-use Rattle.share_table.proofs.Locked.{unlock_unheld, unlock_done, loses_lock, IsFreedTo, freed_end}
-use Rattle.share_table.proofs.Masked as masks
-use Rattle.share_table.proofs.Held as holds
+use Rattle.share_table.proofs.Locked.{unlock_unheld, unlock_done, loses_lock}
 use Rattle.share_table.proofs.Masked.{serves_unmask, loses_mask}
 use Rattle.share_table.proofs.Held.{hold_full, hold_done, drop_bad, drop_done, loses_hold}
 use Rattle.share_table.proofs.Queued.{work_of, serves_queue, loses_work}
@@ -40,10 +37,6 @@ cast z fits = simp to_z-of_z
 
 fits_below : (place : ℕ) → place < 64 → is_below 64 (pos place) ≡ true
 fits_below place h = grind (arith, nat_tests)
-
-out_of : (z : ℤ) → number_of 64 z ≡ None → is_below 64 z ≡ false
-out_of (pos n) h = grind arith
-out_of (negsuc n) h = refl
 
 -- no lock has a number out of range
 past_end : {X : Type 0} (xs : List X) (k : ℕ) (d : X) → length xs ≤ k → get_or xs k d ≡ d
@@ -249,14 +242,6 @@ pub remove_work_call : (v : ShareRows) (locks : List (Option Who)) (masks : List
 remove_work_call v locks masks holds work new owner view is =
     subst (λ (w : ShareRows). Loses HoldsShares w owner work_key (rows_of locks masks holds new)) view
     (lose_work (rows_of locks masks holds work) new owner work_key refl refl refl (loses_work work new owner is))
-
-pub clear_mask_at : (owner n p : ℕ) (old new : List Bool) → owner ≤ 4 → n < 9 → p ≡ owner * 9 + n → masks.IsClearedTo owner n old new → masks.IsClearedTo owner (n + 1) old (set new p false)
-clear_mask_at owner n p old new few short at to =
-    subst (λ (m : ℕ). masks.IsClearedTo owner (n + 1) old (set new m false)) (sym at) (masks.cleared_more owner n old new few short to)
-
-pub clear_hold_at : (owner n p : ℕ) (old new : List ℕ) → owner ≤ 4 → n < 64 → p ≡ owner * 64 + n → holds.IsClearedTo owner n old new → holds.IsClearedTo owner (n + 1) old (set new p 0)
-clear_hold_at owner n p old new few short at to =
-    subst (λ (m : ℕ). holds.IsClearedTo owner (n + 1) old (set new m 0)) (sym at) (holds.cleared_more owner n old new few short to)
 
 -- what is read
 pub masked_call : (v : ShareRows) (locks : List (Option Who)) (held : List Bool) (counts : List ℕ) (work : List Work) (r : Bool) → rows_of locks held counts work ≡ v → r ≡ any_held held →

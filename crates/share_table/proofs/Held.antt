@@ -1,5 +1,5 @@
 -- The holds of a history, for each owner and domain.
-use Rattle.std.proofs.Common.{◌≡◌, ◌≢◌, ℕ, length, set, replicate, length-set, ◌+◌, ◌-◌, ◌*◌, ◌<◌, ◌≤◌, Bool, true, false, cond, ◌&&◌, eqb, ltb, List, [], ◌∷◌, ℤ, pos, negsuc, Some, None, refl, ap, sym, ◌∙◌, subst, arith, get_or, get_or-set_same, get_or-set_other}
+use Rattle.std.proofs.Common.{◌≡◌, ◌≢◌, ℕ, length, set, replicate, ◌+◌, ◌-◌, ◌*◌, ◌<◌, ◌≤◌, Bool, true, false, cond, ◌&&◌, eqb, ltb, List, [], ◌∷◌, ℤ, pos, negsuc, Some, None, refl, ap, sym, ◌∙◌, subst, arith, get_or, get_or-set_same, get_or-set_other}
 use Rattle.std.proofs.lemmas.Bool.Decides.{nat_tests}
 use Rattle.std.proofs.lemmas.Int.{ints}
 use Rattle.std.specs.Prelude.{count_by}
@@ -8,12 +8,11 @@ use Rattle.std.specs.Ordering.{int_eq}
 use Rattle.sd_base.specs.declared.history.Refusal.TheVariants.{Bad, Full}
 use Rattle.sd_base.specs.declared.history.Update.TheVariants.{Hold, DropHold}
 use Rattle.sd_base.specs.Selection.{without_first, is_below}
-use Rattle.sd_base.specs.History.{Entry, OfHolds, Key, same_resource, key_of, hold_key, entry, is_of, after_entry, live_of, Without}
+use Rattle.sd_base.specs.History.{Entry, OfHolds, Key, same_resource, key_of, hold_key, entry, is_of, after_entry, live_of}
 use Rattle.sd_base.specs.Part.{Serves, Loses}
 use Rattle.sd_base.proofs.Counting.{count_by-cons}
 use Rattle.sd_base.proofs.Single.{count_by-none, count_by-some}
 use Rattle.sd_base.proofs.SoundLive.{lawful_sound}
-use Rattle.sd_base.proofs.Live.{live_of-Without}
 use Rattle.share_table.specs.Holds.{holds_at, HoldsHolds, IsCounts}
 use Rattle.share_table.proofs.Locked.{replicate-at}
 use Rattle.share_table.proofs.OtherKinds.{Within, count_by-after, count_by-without, count_by-apart, count_by-fewer}
@@ -71,10 +70,6 @@ is_of-hold owner place o domain = grind arith
 
 apart_holds : (owner place o : ℕ) (domain : ℤ) → is_place owner place o domain ≡ false → (x : Entry) → is_of owner (hold_key (pos place)) x ≡ true → is_of o (hold_key domain) x ≡ false
 apart_holds owner place o domain other x h = grind (arith, nat_tests, ints)
-
-pub hold_bad : (counts : List ℕ) (owner : ℕ) (domain : ℤ) → is_below 64 domain ≡ false → Serves HoldsHolds counts owner (Hold domain) (Some Bad) counts
-hold_bad counts owner domain out share h lawful proper holds =
-    (ap (λ b. cond b (cond (ltb (count_by (is_of owner (hold_key domain)) (live_of h)) 8) None (Some Full)) (Some Bad)) (sym out), λ ok. cc)
 
 hold-refusal : (counts : List ℕ) (live : List Entry) (owner place : ℕ) → is_below 64 (pos place) ≡ true → HoldsHolds counts live →
     cond (is_below 64 (pos place)) (cond (ltb (count_by (is_of owner (hold_key (pos place))) live) 8) None (Some Full)) (Some Bad)
@@ -181,78 +176,6 @@ drop_done counts owner place long few short fits some share h lawful proper hold
     )
 
 -- What dropping an owner leaves.
-
-own-dropped : (owner : ℕ) (domain : ℤ) (live : List Entry) → count_by (is_of owner (hold_key domain)) (Without live owner) ≡ 0
-own-dropped owner domain [] = refl
-own-dropped owner domain (e ∷ live) = grind (arith, count_by-cons (is_of owner (hold_key domain)) e (Without live owner), own-dropped owner domain live)
-
-other-kept : (owner o : ℕ) (domain : ℤ) (live : List Entry) → eqb o owner ≡ false → count_by (is_of o (hold_key domain)) (Without live owner) ≡ count_by (is_of o (hold_key domain)) live
-other-kept owner o domain [] apart = refl
-other-kept owner o domain (e ∷ live) apart =
-    grind (arith, nat_tests, count_by-cons (is_of o (hold_key domain)) e live, count_by-cons (is_of o (hold_key domain)) e (Without live owner), other-kept owner o domain live apart)
-
--- the owner's places are clear, the others as they were
-pub record IsCleared (owner : ℕ) (old new : List ℕ) : Type 0 where
-  pub own : (domain : ℕ) → domain < 64 → get_or new (owner * 64 + domain) 0 ≡ 0
-  pub others : (place : ℕ) → ((domain : ℕ) → domain < 64 → place ≢ owner * 64 + domain) → get_or new place 0 ≡ get_or old place 0
-
-own_clear : (owner : ℕ) (domain : ℤ) (old new : List ℕ) → IsCleared owner old new → holds_at new owner domain ≡ 0
-own_clear owner (negsuc k) old new clear = refl
-own_clear owner (pos k) old new clear =
-    elim (ltb k 64) as (λ fits. ltb k 64 ≡ fits → cond fits (get_or new (owner * 64 + k) 0) 0 ≡ 0) [
-      | false ↦ λ is. refl
-      | true ↦ λ is. clear.own k (grind (arith, nat_tests))
-    ] refl
-
-others_clear : (owner o : ℕ) (domain : ℤ) (old new : List ℕ) → eqb o owner ≡ false → IsCleared owner old new → holds_at new o domain ≡ holds_at old o domain
-others_clear owner o (negsuc k) old new apart clear = refl
-others_clear owner o (pos k) old new apart clear =
-    elim (ltb k 64) as (λ fits. ltb k 64 ≡ fits → cond fits (get_or new (o * 64 + k) 0) 0 ≡ cond fits (get_or old (o * 64 + k) 0) 0) [
-      | false ↦ λ is. refl
-      | true ↦ λ is. clear.others (o * 64 + k) (λ domain h. (let below : k < 64 = grind (arith, nat_tests) in let differ : o ≢ owner = grind (arith, nat_tests) in λ e. absurd (differ (omega arith))))
-    ] refl
-
--- The loop that clears an owner's counts, after n of them.
-pub record IsClearedTo (owner n : ℕ) (old new : List ℕ) : Type 0 where
-  pub counts : IsCounts new
-  pub own : (domain : ℕ) → domain < n → get_or new (owner * 64 + domain) 0 ≡ 0
-  pub others : (place : ℕ) → ((domain : ℕ) → domain < 64 → place ≢ owner * 64 + domain) → get_or new place 0 ≡ get_or old place 0
-
-pub cleared_none : (owner : ℕ) (old : List ℕ) → IsCounts old → IsClearedTo owner 0 old old
-cleared_none owner old counts = record { counts = counts; own = λ domain h. absurd (omega arith); others = λ place h. refl }
-
-pub IsCounts-set : (counts : List ℕ) (place n : ℕ) → IsCounts counts → place < 320 → n ≤ 8 → IsCounts (set counts place n)
-IsCounts-set counts place n is short few = record {
-  places = length-set counts place n ∙ is.places;
-  few = λ k.
-      elim (eqb k place) as (λ b. eqb k place ≡ b → get_or (set counts place n) k 0 ≤ 8) [
-        | true ↦ λ same. (
-            let here : place ≡ k = grind (arith, nat_tests) in
-            let long = is.places in
-            subst (λ m. get_or (set counts place n) m 0 ≤ 8) here (rw (get_or-set_same counts place n 0 (omega arith)) few))
-        | false ↦ λ differ. (let other : k ≢ place = grind (arith, nat_tests) in rw (get_or-set_other counts place k n 0 other) (is.few k))
-      ] refl;
-}
-
-pub cleared_more : (owner n : ℕ) (old new : List ℕ) → owner ≤ 4 → n < 64 → IsClearedTo owner n old new → IsClearedTo owner (n + 1) old (set new (owner * 64 + n) 0)
-cleared_more owner n old new few short to = record {
-  counts = IsCounts-set new (owner * 64 + n) 0 to.counts (omega arith) (omega arith);
-  own = λ domain h.
-      elim (eqb domain n) as (λ b. eqb domain n ≡ b → get_or (set new (owner * 64 + n) 0) (owner * 64 + domain) 0 ≡ 0) [
-        | true ↦ λ is. (
-            let same : n ≡ domain = grind (arith, nat_tests) in
-            let long = to.counts.places in
-            subst (λ t. get_or (set new (owner * 64 + n) 0) (owner * 64 + t) 0 ≡ 0) same (get_or-set_same new (owner * 64 + n) 0 0 (omega arith)))
-        | false ↦ λ is. (
-            let differ : domain ≢ n = grind (arith, nat_tests) in
-            let other : owner * 64 + domain ≢ owner * 64 + n = λ e. absurd (differ (omega arith)) in
-            get_or-set_other new (owner * 64 + n) (owner * 64 + domain) 0 0 other ∙ to.own domain (omega arith))
-      ] refl;
-  others = λ place h. get_or-set_other new (owner * 64 + n) place 0 0 (h n short) ∙ to.others place h;
-}
-
-pub cleared_end : (owner n : ℕ) (old new : List ℕ) → n ≡ 64 → IsClearedTo owner n old new → IsCleared owner old new
-cleared_end owner n old new all to = record { own = λ domain h. to.own domain (omega arith); others = to.others }
 
 pub none_held : HoldsHolds (replicate 320 0) []
 none_held owner (negsuc k) = refl

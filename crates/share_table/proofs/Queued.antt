@@ -1,9 +1,9 @@
 -- The queue of a history: its front, its end, and an owner's newest item.
-use Rattle.std.proofs.Common.{◌≡◌, ℕ, ◌++◌, reverse, Bool, true, false, cond, not, eqb, ltb, List, [], ◌∷◌, ℤ, Option, Some, None, refl, ap, sym, ◌∙◌, arith, append-nil}
+use Rattle.std.proofs.Common.{◌≡◌, ℕ, ◌++◌, reverse, Bool, true, false, cond, not, eqb, ltb, List, [], ◌∷◌, ℤ, Option, Some, None, refl, ap, sym, ◌∙◌, arith}
 use Rattle.std.proofs.lemmas.Bool.Decides.{nat_tests}
 use Rattle.std.proofs.lemmas.List.{reverse-reverse}
 use Rattle.std.specs.Prelude.{count_by}
-use Rattle.std.specs.List.{list_any, filter, filter_map}
+use Rattle.std.specs.List.{list_any, filter_map}
 use Rattle.sd_base.specs.declared.history.Refusal.{Refusal}
 use Rattle.sd_base.specs.declared.history.Refusal.TheVariants.{Bad, Full}
 use Rattle.sd_base.specs.declared.history.Update.{Update}
@@ -14,10 +14,10 @@ use Rattle.sd_base.specs.Allowed.{unless_owner}
 use Rattle.sd_base.specs.Part.{Serves, Loses}
 use Rattle.sd_base.proofs.Counting.{count_by-reverse, reverse-cons}
 use Rattle.sd_base.proofs.Removal.{reverse-without_last}
-use Rattle.sd_base.proofs.Rows.{filter_map-without_first, filter_map-without_last, count_by-filter_map, filter_map-filter}
-use Rattle.sd_base.proofs.Live.{rows-after_entry_other, rows-without_other, live_of-Without}
+use Rattle.sd_base.proofs.Rows.{filter_map-without_first, filter_map-without_last, count_by-filter_map}
+use Rattle.sd_base.proofs.Live.{rows-after_entry_other, rows-without_other}
 use Rattle.share_table.specs.declared.queue.Work.{Work}
-use Rattle.share_table.specs.Queue.{is_owned, work_row_of, work_row, HoldsWork, put_refusal, others}
+use Rattle.share_table.specs.Queue.{is_owned, work_row_of, work_row, HoldsWork, put_refusal}
 
 same_of : (owner by : ℕ) (u : Update) → is_of owner work_key (entry by u) ≡ passes (is_owned owner) (work_row_of by u)
 same_of owner by (Queues handler arg) = refl
@@ -181,20 +181,6 @@ reverse-without_first : (p : Work → Bool) (xs : List Work) → reverse (withou
 reverse-without_first p xs =
     let back : reverse (without_last p (reverse xs)) ≡ without_first p xs = reverse-without_last p (reverse xs) ∙ ap (without_first p) (reverse-reverse xs) in
     sym (ap reverse back) ∙ reverse-reverse (without_last p (reverse xs))
-
-filter-push : (q : Work → Bool) (xs : List Work) (x : Work) → filter q (xs ++ x ∷ []) ≡ filter q xs ++ cond (q x) (x ∷ []) []
-filter-push q [] x = grind arith
-filter-push q (y ∷ xs) x = grind (arith, filter-push q xs x)
-
-reverse-filter : (q : Work → Bool) (xs : List Work) → reverse (filter q xs) ≡ filter q (reverse xs)
-reverse-filter q [] = refl
-reverse-filter q (x ∷ xs) =
-    elim (q x) as (λ b. q x ≡ b → reverse (cond b (x ∷ filter q xs) (filter q xs)) ≡ filter q (reverse (x ∷ xs))) [
-      | true ↦ λ is. reverse-cons x (filter q xs) ∙ ap (λ ys. ys ++ x ∷ []) (reverse-filter q xs)
-          ∙ sym (ap (filter q) (reverse-cons x xs) ∙ filter-push q (reverse xs) x ∙ ap (λ b. filter q (reverse xs) ++ cond b (x ∷ []) []) is)
-      | false ↦ λ is. reverse-filter q xs
-          ∙ sym (ap (filter q) (reverse-cons x xs) ∙ filter-push q (reverse xs) x ∙ ap (λ b. filter q (reverse xs) ++ cond b (x ∷ []) []) is ∙ append-nil (filter q (reverse xs)))
-    ] refl
 
 pub loses_work : (old new : List Work) (owner : ℕ) → new ≡ without_last (is_owned owner) old → Loses HoldsWork old owner work_key new
 loses_work old new owner is live sound holds =

@@ -6,12 +6,12 @@ use Rattle.std.proofs.lemmas.List.Folds.{list_any-append}
 use Rattle.std.proofs.lemmas.Option.{slice_get_within, get_or_from_slice_get}
 use Rattle.std.specs.Prelude.{count_by, slice_get, MatchOption}
 use Rattle.circular_buffer.specs.Buffer.{Buffer, buffer}
-use Rattle.std.specs.List.{list_any, filter, remove}
-use Rattle.sd_base.specs.Selection.{passes, without_last}
-use Rattle.sd_base.proofs.Counting.{count_by-cons, count_by-append, count_by-filter_le, count_below-le, count_below-all}
-use Rattle.sd_base.proofs.Removal.{remove_last, list_any-filter_none, list_any-without_last, count_by-without_last}
+use Rattle.std.specs.List.{list_any, remove}
+use Rattle.sd_base.specs.Selection.{without_last}
+use Rattle.sd_base.proofs.Counting.{count_by-cons, count_by-append, count_below-le, count_below-all}
+use Rattle.sd_base.proofs.Removal.{remove_last, list_any-without_last, count_by-without_last}
 use Rattle.share_table.specs.declared.queue.Work.{Work}
-use Rattle.share_table.specs.Queue.{is_owned, is_astray, IsQueue, others, turned}
+use Rattle.share_table.specs.Queue.{is_owned, is_astray, IsQueue, turned}
 
 -- What is left of a queue that has turned i times, where the item at one place went out.
 abbrev pub turned_without : List Work → ℕ → ℕ → List Work
@@ -84,24 +84,6 @@ turned-more items newest i within =
     ∙ append_assoc (drop (i + 1) items) (remove (take i items) newest) (cond (not (eqb i newest)) (at.0 ∷ []) [])
     ∙ ap (λ l. drop (i + 1) items ++ l) (sym (kept_or_gone (take i items) i newest at.0 (taken_length items i (omega arith))) ∙ ap (λ l. remove l newest) (sym more))
 
--- What is left where an owner's items go out.
-abbrev pub turned_others : ℕ → List Work → ℕ → List Work
-turned_others owner items i = drop i items ++ others owner (take i items)
-
-filter-push : (q : Work → Bool) (xs : List Work) (x : Work) → filter q (xs ++ x ∷ []) ≡ filter q xs ++ cond (q x) (x ∷ []) []
-filter-push q [] x = grind arith
-filter-push q (y ∷ xs) x = grind (arith, filter-push q xs x)
-
-pub others-more : (owner : ℕ) (items : List Work) (i : ℕ) → i < length items →
-    turned (passes (λ work. not (is_owned owner work)) (slice_get (turned_others owner items i) 0)) (turned_others owner items i) ≡ turned_others owner items (i + 1)
-others-more owner items i within =
-    let at = at_within items i within in
-    let front = drop-one items i at.0 at.1 in
-    let more = take-more items i at.0 at.1 in
-    ap (λ l. turned (passes (λ work. not (is_owned owner work)) (slice_get (l ++ others owner (take i items)) 0)) (l ++ others owner (take i items))) front
-    ∙ append_assoc (drop (i + 1) items) (others owner (take i items)) (cond (not (is_owned owner at.0)) (at.0 ∷ []) [])
-    ∙ ap (λ l. drop (i + 1) items ++ l) (sym (filter-push (λ work. not (is_owned owner work)) (take i items) at.0) ∙ ap (others owner) (sym more))
-
 -- after as many turns as there are items
 pub drop-all : (xs : List Work) → drop (length xs) xs ≡ []
 drop-all [] = refl
@@ -114,9 +96,6 @@ take-all (x ∷ xs) = ap (λ l. x ∷ l) (take-all xs)
 pub all_turned : (items : List Work) (newest : ℕ) → turned_without items newest (length items) ≡ remove items newest
 all_turned items newest = ap (λ l. l ++ remove (take (length items) items) newest) (drop-all items) ∙ ap (λ l. remove l newest) (take-all items)
 
-pub all_others : (owner : ℕ) (items : List Work) → turned_others owner items (length items) ≡ others owner items
-all_others owner items = ap (λ l. l ++ others owner (take (length items) items)) (drop-all items) ∙ ap (others owner) (take-all items)
-
 -- What the queue keeps to.
 
 pub IsQueue-without_last : (owner : ℕ) (items : List Work) (capacity : ℕ) → IsQueue items capacity → IsQueue (without_last (is_owned owner) items) capacity
@@ -126,19 +105,8 @@ IsQueue-without_last owner items capacity queue = record {
   room = queue.room;
 }
 
-pub IsQueue-others : (owner : ℕ) (items : List Work) (capacity : ℕ) → IsQueue items capacity → IsQueue (others owner items) capacity
-IsQueue-others owner items capacity queue = record {
-  in_range = list_any-filter_none (λ work. not (is_owned owner work)) is_astray items queue.in_range;
-  few = λ o. (let fewer = count_by-filter_le (λ work. not (is_owned owner work)) (is_owned o) items in let few = queue.few o in omega arith);
-  room = queue.room;
-}
-
 counts_none : (b : Bool) → b ≡ false → cond {A = ℕ} b 1 0 ≡ 0
 counts_none b h = ap (λ x. cond {A = ℕ} x 1 0) h
-
-counts_le : (b : Bool) → cond {A = ℕ} b 1 0 ≤ 1
-counts_le true = omega arith
-counts_le false = omega arith
 
 -- one more of an owner that has fewer than 64
 one_more_each : (work : Work) (items : List Work) (owner : ℕ) → count_by (is_owned owner) items ≤ 64 → count_by (is_owned work.owner) items < 64 →
@@ -215,13 +183,6 @@ pub without-turned : (b new : Buffer Work) (items : List Work) (capacity newest 
 without-turned b new items capacity newest i is within next =
     next ∙ ap (λ (q : Buffer Work). buffer (turned (not (eqb i newest)) q.items) q.capacity) is ∙ ap (λ (l : List Work). buffer l capacity) (turned-more items newest i within)
 
-pub others-turned : (b new : Buffer Work) (items : List Work) (capacity owner i : ℕ) (keep : Bool) → b ≡ buffer (turned_others owner items i) capacity → i < length items →
-    keep ≡ passes (λ work. not (is_owned owner work)) (slice_get b.items 0) → new ≡ buffer (turned keep b.items) b.capacity → new ≡ buffer (turned_others owner items (i + 1)) capacity
-others-turned b new items capacity owner i keep is within kept next =
-    next ∙ ap (λ (k : Bool). buffer (turned k b.items) b.capacity) kept
-    ∙ ap (λ (q : Buffer Work). buffer (turned (passes (λ work. not (is_owned owner work)) (slice_get q.items 0)) q.items) q.capacity) is
-    ∙ ap (λ (l : List Work). buffer l capacity) (others-more owner items i within)
-
 -- the item at a place, as a search answers it
 own_at : (items : List Work) (i : ℕ) (owner : ℕ) (at : Option Work) → slice_get items i ≡ at → MatchOption at (true ≡ false) (λ work. is_owned owner work ≡ true) →
     (work : Work) × (i < length items) × (is_owned owner (get_or items i work) ≡ true)
@@ -242,8 +203,3 @@ pub newest_gone : (owner : ℕ) (items v : List Work) (b : Buffer Work) (capacit
 newest_gone owner items v b capacity newest i view is all later own =
     is ∙ ap (λ (n : ℕ). buffer (turned_without items newest n) capacity) all
     ∙ ap (λ (l : List Work). buffer l capacity) (all_turned items newest ∙ without_newest owner items v newest view later own)
-
-pub owners_gone : (owner : ℕ) (items : List Work) (b : Buffer Work) (capacity i : ℕ) → b ≡ buffer (turned_others owner items i) capacity → i ≡ length items →
-    b ≡ buffer (others owner items) capacity
-owners_gone owner items b capacity i is all =
-    is ∙ ap (λ (n : ℕ). buffer (turned_others owner items n) capacity) all ∙ ap (λ (l : List Work). buffer l capacity) (all_others owner items)

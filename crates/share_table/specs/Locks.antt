@@ -1,5 +1,5 @@
 -- Who holds each lock.
-use Rattle.std.specs.Prelude.{◌≡◌, ℕ, Bool, cond, ◌&&◌, eqb, List, ℤ, pos, negsuc, Option, Some, None, slice_index_or}
+use Rattle.std.specs.Prelude.{◌≡◌, Bool, ◌&&◌, eqb, List, ℤ, pos, negsuc, Option, Some, None, slice_index_or}
 use Rattle.std.specs.List.{list_any, find}
 use Rattle.sd_base.specs.declared.actors.Who.{Who}
 use Rattle.sd_base.specs.declared.history.Refusal.{Refusal}
@@ -43,11 +43,6 @@ abbrev pub refusal_of_unlock : UnlockOut → Option Refusal
 refusal_of_unlock unlocked.Ok = None
 refusal_of_unlock unlocked.Unheld = Some Unheld
 refusal_of_unlock unlocked.Bad = Some Bad
-
--- the holder of a lock once an owner's activities hold none
-abbrev pub unless_owner's : ℕ → Option Who → Option Who
-unless_owner's owner None = None
-unless_owner's owner (Some who) = cond (eqb who.owner owner) None (Some who)
 
 -- a live entry by which the activity holds a lock
 abbrev pub takes_lock : Who → Entry → Bool

@@ -1,6 +1,6 @@
 -- The queue of work, in the order of the history.
-use Rattle.std.specs.Prelude.{◌≡◌, ℕ, ◌≤◌, Bool, false, cond, not, ◌||◌, eqb, ltb, List, [], ◌∷◌, ◌++◌, reverse, Option, Some, None, count_by}
-use Rattle.std.specs.List.{list_any, filter, filter_map}
+use Rattle.std.specs.Prelude.{◌≡◌, ℕ, ◌≤◌, Bool, false, cond, ◌||◌, eqb, ltb, List, [], ◌∷◌, ◌++◌, reverse, Option, Some, None, count_by}
+use Rattle.std.specs.List.{list_any, filter_map}
 use Rattle.sd_base.specs.declared.history.Refusal.{Refusal}
 use Rattle.sd_base.specs.declared.history.Refusal.TheVariants.{Full}
 use Rattle.sd_base.specs.declared.history.Update.{Update}
@@ -27,10 +27,6 @@ HoldsWork items live = items ≡ reverse (filter_map work_row live)
 -- why an owner's item is not put at the end of these
 abbrev pub put_refusal : List Work → ℕ → Option Refusal
 put_refusal items owner = cond (ltb (count_by (is_owned owner) items) 64) None (Some Full)
-
--- the items of all others
-abbrev pub others : ℕ → List Work → List Work
-others owner items = filter (λ work. not (is_owned owner work)) items
 
 -- no owner but 1 to 4
 abbrev pub is_astray : Work → Bool

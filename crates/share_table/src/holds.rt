@@ -7,19 +7,20 @@ ghost use Rattle.share_table.specs.Answers.{refusal_of_share};
 ghost use Rattle.share_table.specs.Holds.{HoldsHolds, holds_at, held_by_all};
 
 use crate::answers::ShareRefusal;
+use sd_base::limits::{DOMAINS, HOLDS, OWNERS};
 use sd_base::number_below;
 use std::marker::Model;
 
 /// How many domains there are.
-const DOMAINS: usize = 64;
+const PLACES: usize = DOMAINS as usize;
 
 /// How many holds one owner may have on one domain.
-const MOST: u8 = 8;
+const MOST: u8 = HOLDS as u8;
 
 /// The counts of 5 owners on 64 domains each.
 #[derive(Drop)]
 pub struct Holds {
-    counts: [u8; 320],
+    counts: [u8; OWNERS * PLACES],
 }
 
 impl Model for Holds {
@@ -38,7 +39,9 @@ impl Holds {
     pub fn new() -> Holds
         ensures { HoldsHolds result [] }
     {
-        Holds { counts: [0; 320] }
+        Holds {
+            counts: [0; OWNERS * PLACES],
+        }
     }
 
     /// One more hold of an owner on a domain.
@@ -47,10 +50,10 @@ impl Holds {
         ensures serves { Serves HoldsHolds self.old owner (Hold domain) (refusal_of_share result) self.new }
         ensures err { OnErr result (self.new ≡ self.old) }
     {
-        let Some(domain) = number_below(domain, 64) else {
+        let Some(domain) = number_below(domain, DOMAINS as u16) else {
             return Err(ShareRefusal::Bad);
         };
-        let place = usize::from(owner) * DOMAINS + usize::from(domain);
+        let place = usize::from(owner) * PLACES + usize::from(domain);
         let count = self.counts[place];
         if count >= MOST {
             return Err(ShareRefusal::Full);
@@ -65,10 +68,10 @@ impl Holds {
         ensures serves { Serves HoldsHolds self.old owner (DropHold domain) (refusal_of_share result) self.new }
         ensures err { OnErr result (self.new ≡ self.old) }
     {
-        let Some(domain) = number_below(domain, 64) else {
+        let Some(domain) = number_below(domain, DOMAINS as u16) else {
             return Err(ShareRefusal::Bad);
         };
-        let place = usize::from(owner) * DOMAINS + usize::from(domain);
+        let place = usize::from(owner) * PLACES + usize::from(domain);
         let count = self.counts[place];
         if count == 0 {
             return Err(ShareRefusal::Bad);
@@ -83,15 +86,15 @@ impl Holds {
         ensures places { length self.now ≡ 320 }
     {
         let counts = &self.counts;
-        let Some(domain) = number_below(domain, 64) else {
+        let Some(domain) = number_below(domain, DOMAINS as u16) else {
             return 0;
         };
         let domain = usize::from(domain);
         u32::from(counts[domain])
-            + u32::from(counts[DOMAINS + domain])
-            + u32::from(counts[2 * DOMAINS + domain])
-            + u32::from(counts[3 * DOMAINS + domain])
-            + u32::from(counts[4 * DOMAINS + domain])
+            + u32::from(counts[PLACES + domain])
+            + u32::from(counts[2 * PLACES + domain])
+            + u32::from(counts[3 * PLACES + domain])
+            + u32::from(counts[4 * PLACES + domain])
     }
 
     /// Takes away what one hold of the owner put here.
@@ -100,8 +103,8 @@ impl Holds {
         requires held { 0 < holds_at self.old owner domain }
         ensures { Loses HoldsHolds self.old owner (hold_key domain) self.new }
     {
-        if let Some(domain) = number_below(domain, 64) {
-            let place = usize::from(owner) * DOMAINS + usize::from(domain);
+        if let Some(domain) = number_below(domain, DOMAINS as u16) {
+            let place = usize::from(owner) * PLACES + usize::from(domain);
             let count = self.counts[place];
             self.counts[place] = count - 1;
         }

@@ -11,6 +11,3 @@ mod shares;
 pub use answers::{LockOut, ShareRefusal, UnlockOut};
 pub use queue::Work;
 pub use shares::Shares;
-
-#[cfg(test)]
-mod tests;

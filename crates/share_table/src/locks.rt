@@ -4,16 +4,17 @@ ghost use Rattle.sd_base.specs.declared.history.Update.TheVariants.{Lock, Unlock
 ghost use Rattle.sd_base.specs.History.{lock_key};
 ghost use Rattle.sd_base.specs.Selection.{passes};
 ghost use Rattle.sd_base.specs.Part.{Serves, Loses};
-ghost use Rattle.share_table.specs.Locks.{HoldsLocks, lock_at, refusal_of_lock, refusal_of_unlock, has_holder, is_who, unless_owner's};
+ghost use Rattle.share_table.specs.Locks.{HoldsLocks, lock_at, refusal_of_lock, refusal_of_unlock, has_holder, is_who};
 
 use crate::answers::{LockOut, UnlockOut};
+use sd_base::limits::LOCKS;
 use sd_base::{Who, number_below};
 use std::marker::Model;
 
 /// The 64 locks.
 #[derive(Drop)]
 pub struct Locks {
-    holders: [Option<Who>; 64],
+    holders: [Option<Who>; LOCKS as usize],
 }
 
 impl Model for Locks {
@@ -33,7 +34,7 @@ impl Locks {
         ensures { HoldsLocks result [] }
     {
         Locks {
-            holders: [None; 64],
+            holders: [None; LOCKS as usize],
         }
     }
 
@@ -42,7 +43,7 @@ impl Locks {
         ensures serves { Serves HoldsLocks self.old who.owner (Lock k who.task) (refusal_of_lock result) self.new }
         ensures kept { refusal_of_lock result ≢ None → self.new ≡ self.old }
     {
-        let Some(place) = number_below(k, 64) else {
+        let Some(place) = number_below(k, LOCKS as u16) else {
             return LockOut::Bad;
         };
         let place = usize::from(place);
@@ -58,7 +59,7 @@ impl Locks {
         ensures serves { Serves HoldsLocks self.old who.owner (Unlock k who.task) (refusal_of_unlock result) self.new }
         ensures kept { refusal_of_unlock result ≢ None → self.new ≡ self.old }
     {
-        let Some(place) = number_below(k, 64) else {
+        let Some(place) = number_below(k, LOCKS as u16) else {
             return UnlockOut::Bad;
         };
         let place = usize::from(place);
@@ -74,7 +75,7 @@ impl Locks {
         ensures { result ≡ lock_at self.now k }
     {
         let holders = &self.holders;
-        let Some(place) = number_below(k, 64) else {
+        let Some(place) = number_below(k, LOCKS as u16) else {
             return None;
         };
         holders[usize::from(place)]
@@ -92,7 +93,7 @@ impl Locks {
         requires { lock_at self.old k ≡ Some who }
         ensures { Loses HoldsLocks self.old who.owner (lock_key k who.task) self.new }
     {
-        if let Some(place) = number_below(k, 64) {
+        if let Some(place) = number_below(k, LOCKS as u16) {
             self.holders[usize::from(place)] = None;
         }
     }

@@ -7,15 +7,16 @@ ghost use Rattle.sd_base.specs.Part.{Serves, Loses};
 ghost use Rattle.share_table.specs.Masks.{HoldsMasks, mask_at, any_held};
 
 use sd_base::Who;
+use sd_base::limits::{OWNERS, TASKS};
 use std::marker::Model;
 
 /// How many activities an owner has: 8 tasks, and its handlers.
-const ACTIVITIES: usize = 9;
+const ACTIVITIES: usize = TASKS as usize + 1;
 
 /// The masks of 5 owners with 9 activities each.
 #[derive(Drop)]
 pub struct Masks {
-    held: [bool; 45],
+    held: [bool; OWNERS * ACTIVITIES],
 }
 
 impl Model for Masks {
@@ -33,7 +34,9 @@ impl Masks {
     pub fn new() -> Masks
         ensures { HoldsMasks result [] }
     {
-        Masks { held: [false; 45] }
+        Masks {
+            held: [false; OWNERS * ACTIVITIES],
+        }
     }
 
     /// Holds interrupts off for an activity; false where it does so already.

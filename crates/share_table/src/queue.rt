@@ -3,12 +3,12 @@ ghost use Rattle.std.specs.Prelude.{◌≡◌, ◌+◌, ◌<◌, ◌≤◌, [], 
 ghost use Rattle.std.specs.List.{list_any, filter};
 ghost use Rattle.circular_buffer.specs.Buffer.{buffer};
 ghost use Rattle.sd_base.specs.Selection.{passes, without_last};
-ghost use Rattle.share_table.specs.Queue.{is_owned, put_refusal, others, turned};
+ghost use Rattle.share_table.specs.Queue.{is_owned, put_refusal, turned};
 ghost use Rattle.share_table.specs.Answers.{refusal_of_share};
 
 use crate::answers::ShareRefusal;
 use circular_buffer::HeapCircularBuffer;
-use sd_base::limits::WORK_ITEMS;
+use sd_base::limits::{DRIVERS, WORK_ITEMS};
 use sd_base::{Memory, Steps};
 use std::alloc::Global;
 use std::marker::Model;
@@ -49,7 +49,7 @@ impl Queue {
         ensures { IfOk result (λ queue. queue ≡ []) }
     {
         Ok(Queue {
-            items: HeapCircularBuffer::with_capacity(alloc, 256)?,
+            items: HeapCircularBuffer::with_capacity(alloc, DRIVERS * WORK_ITEMS)?,
         })
     }
 

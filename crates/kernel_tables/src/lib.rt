@@ -10,6 +10,3 @@ mod rows;
 pub use kernel::Kernel;
 pub use row::Row;
 pub use sd_base::BlockState;
-
-#[cfg(test)]
-mod tests;

@@ -14,8 +14,18 @@ use crate::row::{Found, Row};
 use claim_table::{Claim, Claims};
 use grant_table::{BlockRow, Grants};
 use sd_base::Who;
+use sd_base::limits::{DOMAINS, LOCKS, OWNERS, TASKS};
 use share_table::Shares;
 use timer_table::Timers;
+
+/// The owners, numbered from 0.
+const OWNER_COUNT: u8 = OWNERS as u8;
+/// The locks, numbered from 0.
+const LOCK_COUNT: u8 = LOCKS as u8;
+/// The activities of an owner: its handlers, which are 0, and its tasks.
+const TASK_COUNT: u8 = TASKS + 1;
+/// The power domains, numbered from 0.
+const DOMAIN_COUNT: u8 = DOMAINS as u8;
 
 /// The only row, or how far past it the place lies.
 fn only(row: Row, k: u32) -> Found
@@ -49,7 +59,7 @@ pub fn block(grants: &Grants, k: u32) -> Found
     ensures { result ≡ look_up (grant_rows grants.now) k }
 {
     let mut left = k;
-    for owner in 0..5u8 {
+    for owner in 0..OWNER_COUNT {
         match block_of(grants.blocks(owner), owner, left) {
             Found::At(row) => return Found::At(row),
             Found::Past(past) => left = past,
@@ -178,7 +188,7 @@ fn lock(shares: &Shares, k: u32) -> Found
     ensures { result ≡ look_up (lock_rows (λ lock. lock_at shares.now.locks (pos lock))) k }
 {
     let mut left = k;
-    for lock in 0..64u8 {
+    for lock in 0..LOCK_COUNT {
         match lock_of(shares, lock, left) {
             Found::At(row) => return Found::At(row),
             Found::Past(past) => left = past,
@@ -206,7 +216,7 @@ fn mask_of_owner(shares: &Shares, owner: u8, k: u32) -> Found
     ensures { result ≡ look_up (masks_of_owner owner (mask_at shares.now.masks owner)) k }
 {
     let mut left = k;
-    for task in 0..9u8 {
+    for task in 0..TASK_COUNT {
         match mask_of(shares, owner, task, left) {
             Found::At(row) => return Found::At(row),
             Found::Past(past) => left = past,
@@ -220,7 +230,7 @@ fn mask(shares: &Shares, k: u32) -> Found
     ensures { result ≡ look_up (mask_rows (mask_at shares.now.masks)) k }
 {
     let mut left = k;
-    for owner in 0..5u8 {
+    for owner in 0..OWNER_COUNT {
         match mask_of_owner(shares, owner, left) {
             Found::At(row) => return Found::At(row),
             Found::Past(past) => left = past,
@@ -246,7 +256,7 @@ fn hold(shares: &Shares, k: u32) -> Found
     ensures { result ≡ look_up (hold_rows (λ domain. held_by_all shares.now.holds (pos domain))) k }
 {
     let mut left = k;
-    for domain in 0..64u8 {
+    for domain in 0..DOMAIN_COUNT {
         match hold_of(shares, domain, left) {
             Found::At(row) => return Found::At(row),
             Found::Past(past) => left = past,

@@ -1,5 +1,5 @@
 -- A history goes on: what tracked tables stand for after an accepted update.
-use Rattle.std.proofs.Common.{◌≡◌, ℕ, zero, suc, ◌≤◌, true, false, eqb, List, [], ◌∷◌, length, get_or, set, replicate, Option, Some, None, Ok, Err, refl, ap, sym, ◌∙◌, subst, arith, length-set, get_or-set_same, get_or-set_other}
+use Rattle.std.proofs.Common.{◌≡◌, ℕ, zero, suc, ◌≤◌, true, false, eqb, List, [], ◌∷◌, length, get_or, set, replicate, Option, Some, None, Ok, refl, ap, sym, ◌∙◌, subst, arith, length-set, get_or-set_same, get_or-set_other}
 use Rattle.std.proofs.lemmas.Bool.Decides.{nat_tests}
 use Rattle.std.proofs.lemmas.List.{get_or_default, length-reverse}
 use Rattle.std.specs.Prelude.{OnOk}
@@ -150,6 +150,3 @@ serves_next t new owner u answer reply rows d has fit serves is noted_is h lawfu
       sym is ∙ (serves h lawful proper stands.kernel).0,
       goes_on t.kernel.claims.share t new owner u reply rows d h has.places (proper_owner owner u fit) noted_is lawful proper stands ok,
     )
-
-pub serves_refusal : (t : TrackedRows) (new : Kernel) (owner : ℕ) (u : Update) (answer : Answer) (refused : Refusal) → ServesKernel t.kernel owner u answer new → answer ≡ Err refused → ServesTracked t owner u (Err refused) t
-serves_refusal t new owner u answer refused serves is h lawful proper stands = (sym is ∙ (serves h lawful proper stands.kernel).0, tt)

@@ -78,10 +78,6 @@ blocks_popped old new notes None is none newest =
     let empty : old ≡ [] = none refl in
     subst (λ bs. Pops (record { blocks = old; notes = notes }) None (record { blocks = bs; notes = notes })) (sym empty ∙ is ∙ append-nil new) (none_popped old notes empty newest)
 
--- no note is the newest where there is none
-pub never_none : (notes : List Note) (n : ℕ) → notes ≡ [] → is_newest_note notes n ≡ true → ⊥
-never_none notes n is newest = (let none : is_newest_note [] n ≡ true = subst (λ ns. is_newest_note ns n ≡ true) is newest in cc)
-
 -- a pop that gives nothing is of an empty list
 pub empty_of : (xs : List Undo) (n : ℕ) (A : Type 0) (B : Undo → Type 0) (result : Option Undo) → n ≡ length xs → MatchOption result ((n ≡ 0) × A) B → result ≡ None → xs ≡ []
 empty_of [] n A B result long cases is = refl

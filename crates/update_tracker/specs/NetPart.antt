@@ -90,10 +90,6 @@ merged blocks (note ∷ notes) =
 abbrev pub read_back : NetRows → List Undo
 read_back rows = merged (reverse rows.blocks) (reverse rows.notes)
 
--- a log reads as the net list of its owner
-abbrev pub LogsReadAsNetLists : Type 0
-LogsReadAsNetLists = (owner : ℕ) (rows : NetRows) (live : List Entry) → ShowsNet owner rows live → read_back rows ≡ net_items owner live
-
 -- the newest note comes after at least so many grants and releases, so that it is newer than they are
 abbrev pub is_newest_note : List Note → ℕ → Bool
 is_newest_note notes blocks = passes (λ (note : Note). not (ltb note.after blocks)) (slice_get notes (length notes - 1))

@@ -53,14 +53,16 @@ CanUndo k owner (undo.Work handler arg) = list_any (is_owned owner) k.shares.wor
 -- Of whatever sound live entries the tables hold their parts, among which the item's is, they then hold the parts of those without it.
 abbrev pub Undoes : Kernel → ℕ → Undo → Kernel → Type 0
 Undoes old owner item new =
-    (live : List Entry) (task : ℕ) → IsSound live → list_any (is_of owner (undo_key task item)) live ≡ true → HoldsTables old live → HoldsTables new (without_first (is_of owner (undo_key task item)) live)
+    (live : List Entry) (task : ℕ) → IsSound live → list_any (is_of owner (undo_key task item)) live ≡ true →
+    HoldsTables old live → HoldsTables new (without_first (is_of owner (undo_key task item)) live)
 
 -- the steps that an item takes at most: an item of work turns the whole queue
 abbrev pub cost_of : Undo → ℕ
 cost_of (undo.Work handler arg) = 256
 cost_of _ = 1
 
--- Live entries of which the tables hold their parts: sound, each asked for under its condition, none that is ended, and of this owner these items.
+-- Live entries of which the tables hold their parts: sound, each asked for under its condition, none of them one that is never live,
+-- and of this owner these items.
 pub record IsLive (k : Kernel) (owner : ℕ) (items : List Undo) (live : List Entry) : Type 0 where
   pub sound : IsSound live
   pub proper : list_any (λ (e : Entry). not (is_proper e.owner e.update)) live ≡ false
@@ -90,7 +92,9 @@ queues _ = false
 abbrev pub steps_for : List Update → ℕ
 steps_for net = length net + 256 * count_by queues net
 
--- Of whatever live entries the table holds its part, one of them being an activity's of the owner that took this lock, it then holds the part of those without it.
+-- Of whatever sound live entries the table holds its part, one of them by which an activity of the owner took this lock, it then holds
+-- the part of those without it.
 abbrev pub LosesLock : ShareRows → ℕ → ℤ → ShareRows → Type 0
 LosesLock old owner lock new =
-    (live : List Entry) (task : ℕ) → IsSound live → list_any (is_of owner (lock_key lock task)) live ≡ true → HoldsShares old live → HoldsShares new (without_first (is_of owner (lock_key lock task)) live)
+    (live : List Entry) (task : ℕ) → IsSound live → list_any (is_of owner (lock_key lock task)) live ≡ true →
+    HoldsShares old live → HoldsShares new (without_first (is_of owner (lock_key lock task)) live)

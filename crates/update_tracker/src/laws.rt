@@ -1,6 +1,5 @@
-//! The laws of net lists and of their logs, each the contract of a function that does nothing.
+//! The laws of net lists, each the contract of a function that does nothing.
 ghost use Rattle.update_tracker.specs.NetLists.{NetListsAfterEntry, NothingLeftOfOwner, NetListsAreShort};
-ghost use Rattle.update_tracker.specs.NetPart.{LogsReadAsNetLists};
 
 /// The net list of an owner after one more accepted update of its own is what the update's role makes of its own live
 /// entries alone; the net lists of all others stay. So an undo log can be kept for each owner by itself.
@@ -16,10 +15,4 @@ pub fn nothing_is_left_of_an_owner()
 /// In a lawful history no owner has more than 9,065 entries in its net list.
 pub fn net_lists_are_short()
     ensures { NetListsAreShort }
-{}
-
-/// A log that shows an owner's part of a history, read back from its newest entry, is what each update of the owner's net
-/// list put into the tables, from the newest to the oldest.
-pub fn logs_read_as_net_lists()
-    ensures { LogsReadAsNetLists }
 {}

@@ -12,14 +12,8 @@ mod undo;
 mod undoing;
 mod undone;
 
-pub use laws::{
-    logs_read_as_net_lists, net_lists_after_one_more_entry, net_lists_are_short,
-    nothing_is_left_of_an_owner,
-};
+pub use laws::{net_lists_after_one_more_entry, net_lists_are_short, nothing_is_left_of_an_owner};
 pub use proper::is_proper;
 pub use sd_base::{Refusal, Update};
 pub use tracked::Tracked;
 pub use undo::{Reply, Undo};
-
-#[cfg(test)]
-mod tests;

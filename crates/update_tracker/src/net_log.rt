@@ -6,15 +6,28 @@ ghost use Rattle.update_tracker.specs.NetPart.{is_newest_note, Pops};
 ghost use Rattle.update_tracker.specs.Places.{FindsLastPlace, HasRoom};
 
 use crate::undo::{Note, Reply, Undo};
+use sd_base::limits::{
+    BLOCKS, DEVICES, DOMAINS, HOLDS, LINES, LOCKS, PARAMETERS, PORT_RANGES, TASKS, TIMERS,
+    WORK_ITEMS,
+};
 use sd_base::{Memory, Update};
 use std::alloc::Global;
 use std::marker::Model;
 
 /// The grants and releases that one owner can have live: 4,096 blocks, each given back.
-const BLOCK_ROOM: usize = 8_192;
+pub const BLOCK_ROOM: usize = 2 * BLOCKS;
 /// The other updates that one owner can have live: 64 lines, 32 ranges of ports, 32 devices, 32 parameters, 64 timers,
 /// 64 locks, 8 holds on each of 64 domains, 64 items of work and 9 masks.
-const NOTE_ROOM: usize = 873;
+pub const NOTE_ROOM: usize = LINES as usize
+    + PORT_RANGES
+    + DEVICES
+    + PARAMETERS
+    + TIMERS
+    + LOCKS as usize
+    + HOLDS * DOMAINS as usize
+    + WORK_ITEMS
+    + TASKS as usize
+    + 1;
 
 /// The live updates of one owner in the order of their making: grants and releases, which nothing ends, by themselves,
 /// and all others, each with how many of these are older.
@@ -177,6 +190,7 @@ impl NetLog {
             Update::Clock { .. } => {}
         }
     }
+
     /// Takes out what was noted last of all, if there is anything.
     pub fn pop(&mut self) -> Option<Undo>
         ensures { Pops self.old result self.new }

@@ -1,13 +1,14 @@
 //! What was taken back last, in storage that is taken when it is made.
 ghost use Rattle.std.specs.Prelude.{◌≡◌, ◌<◌, [], ◌∷◌, ◌++◌, length, IfOk};
 
+use crate::net_log::{BLOCK_ROOM, NOTE_ROOM};
 use crate::undo::Undo;
 use sd_base::Memory;
 use std::alloc::Global;
 use std::marker::Model;
 
 /// The entries that one owner's net list can have.
-const ROOM: usize = 9_065;
+const ROOM: usize = BLOCK_ROOM + NOTE_ROOM;
 
 /// The items of one owner's net list, from its newest.
 #[derive(Drop)]

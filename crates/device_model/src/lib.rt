@@ -110,6 +110,3 @@ impl Devices {
         ensures { self.new ≡ self.old }
     {}
 }
-
-#[cfg(test)]
-mod tests;

@@ -18,3 +18,4 @@ pub mod Reading
 pub mod UndoneLogs
 pub mod UndoLoop
 pub mod TakenBack
+mod Examples

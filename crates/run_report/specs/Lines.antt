@@ -1,6 +1,6 @@
 -- The line of an item, with its line feed: every line that is printed, one case a line.
 -- Here: line_of, print
-use Rattle.std.specs.Prelude.{ℕ, Bool, true, false, List, [], ◌++◌, ℤ, codes, if◌then◌else◌}
+use Rattle.std.specs.Prelude.{ℕ, Bool, true, false, List, [], ◌++◌, codes}
 use Rattle.std.specs.Fmt.{decimal, signed_decimal}
 use Rattle.std.specs.List.{flat_map}
 use Rattle.run_report.specs.declared.item.Item.{Item}

@@ -7,6 +7,7 @@ mod lines;
 mod page;
 mod report;
 mod rows;
+mod tables;
 mod undone;
 mod words;
 

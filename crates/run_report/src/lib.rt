@@ -3,6 +3,7 @@
 
 mod functions;
 mod item;
+mod laws;
 mod lines;
 mod page;
 mod report;
@@ -13,4 +14,5 @@ mod words;
 
 pub use functions::Functions;
 pub use item::{Excerpt, Item, Obstacle, Operands, Order, UndoneItem};
+pub use laws::all_rows_are_told;
 pub use report::Report;

@@ -1,9 +1,9 @@
 -- A text that is read line by line through its stages says what its lines say at once, and has its version.
 -- Here: saids_at, saids_behind, saids_ended; version_from, version_behind, version_ended; version_known
-use Rattle.std.proofs.Common.{◌≡◌, ◌⊎◌, ℕ, Bool, true, false, cond, List, [], ◌∷◌, map, Option, Some, refl, ap, ◌∙◌, inl, inr}
+use Rattle.std.proofs.Common.{◌≡◌, ℕ, Bool, true, false, cond, List, [], ◌∷◌, map, Option, Some, refl, ap, ◌∙◌, inl, inr}
 use Rattle.scenario.specs.declared.stages.Stage.{Stage}
 use Rattle.scenario.specs.declared.stages.Stage.TheVariants.{Opening, Version}
-use Rattle.scenario.specs.Forms.{Said, nothing, none_of, is_version_two, line_said}
+use Rattle.scenario.specs.Forms.{Said, nothing, is_version_two, line_said}
 use Rattle.scenario.specs.Stages.{said_at, stage_after, version_at}
 use Rattle.scenario.specs.Words.{lines_of, words_of}
 use Rattle.scenario.specs.Scenarios.{version_in, lines_said, worded}

@@ -1,6 +1,6 @@
 -- How far a text was read: what a line says at a stage, and the stage behind it. `lines_said` says it of all lines at once.
 -- Here: said_at, stage_after, version_at
-use Rattle.std.specs.Prelude.{ℕ, Bool, true, false, List, Option, Some, if◌then◌else◌}
+use Rattle.std.specs.Prelude.{ℕ, List, Option, Some, if◌then◌else◌}
 use Rattle.scenario.specs.declared.stages.Stage.{Stage}
 use Rattle.scenario.specs.declared.stages.Stage.TheVariants.{Opening, Version}
 use Rattle.scenario.specs.Forms.{Said, nothing, none_of, is_version_two, line_said}

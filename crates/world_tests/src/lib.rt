@@ -4,4 +4,8 @@
 #[cfg(test)]
 mod outside;
 #[cfg(test)]
+mod printed;
+#[cfg(test)]
+mod reports;
+#[cfg(test)]
 mod scenarios;

@@ -1,5 +1,5 @@
 -- Each line goes behind what was read, or ends the reading.
-use Rattle.std.proofs.Common.{◌≡◌, ℕ, ◌∷◌, List, [], length, Option, Some, Result, Ok, Err, ℤ, false, map, inr, sym, subst, ap, ◌∙◌, arith, length-append, ◌+◌, OnOk}
+use Rattle.std.proofs.Common.{◌≡◌, ℕ, ◌∷◌, List, [], length, Option, Some, Result, Ok, Err, ℤ, false, inr, sym, subst, ap, ◌∙◌, arith, length-append, ◌+◌, OnOk}
 use Rattle.std.specs.Result.{is_err}
 use Rattle.scenario.specs.declared.event.Event.{Event}
 use Rattle.scenario.specs.declared.refusal.ScenarioRefusal.{ScenarioRefusal}
@@ -7,9 +7,9 @@ use Rattle.scenario.specs.declared.stages.Stage.{Stage}
 use Rattle.scenario.specs.Words.{lines_of, words_of}
 use Rattle.scenario.specs.Forms.{Said}
 use Rattle.scenario.specs.Fits.{IsVersion}
-use Rattle.scenario.specs.Stages.{said_at, stage_after, version_at}
+use Rattle.scenario.specs.Stages.{said_at, stage_after}
 use Rattle.scenario.specs.Readings.{said_by}
-use Rattle.scenario.specs.Scenarios.{worded, version_of, saids_of, given_by, scenario_of}
+use Rattle.scenario.specs.Scenarios.{worded, saids_of, given_by, scenario_of}
 use Rattle.scenario.proofs.Outcome.{behind, outcome, outcome_is, turn, refused, ended}
 use Rattle.scenario.proofs.Staging.{saids_at, saids_behind, saids_ended, version_from, version_behind, version_ended, version_known}
 use Rattle.scenario.proofs.Fitting.{IsFitPlan, scenario_fits}

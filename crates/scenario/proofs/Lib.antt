@@ -4,3 +4,4 @@ pub mod Counting
 pub mod Outcome
 pub mod Fitting
 pub mod Ruling
+mod Staging

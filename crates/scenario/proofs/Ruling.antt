@@ -20,7 +20,7 @@ use Rattle.scenario.specs.declared.event.KernelEvent.{KernelEvent}
 use Rattle.scenario.specs.declared.event.KernelEvent.TheVariants as k
 use Rattle.scenario.specs.Numbers.{is_number, value_of, number_within, number_to, signed_of, is_name, driver_of, task_of}
 use Rattle.scenario.specs.Keywords.{keyword_of, keywords, kernel_word_of, kernel_words}
-use Rattle.scenario.specs.Forms.{Said, event, answers, ◌>>=◌, only_of, two_of, none_of, are_values, values_in, argument_at, arguments_in, driver_and_task, only_number, only_value, call_said, kernel_arguments, kernel_said, answers_said, keyword_said, line_said}
+use Rattle.scenario.specs.Forms.{Said, event, answers, ◌>>=◌, only_of, two_of, none_of, are_values, values_in, argument_at, arguments_in, driver_and_task, only_number, only_value, restarts_said, load_said, call_said, kernel_arguments, kernel_said, answers_said, keyword_said, line_said}
 use Rattle.scenario.specs.Rules.{IsNumber, IsValue, plain, minus, AreValues, no_value, one_value, NamesDriver, driver, NamesTask, eight, KernelDoes, Says}
 use Rattle.scenario.specs.Rules as rule
 
@@ -251,12 +251,21 @@ if_both false x p = absurd (cc)
 then_said : (o : Option ℕ) (form : ℕ → Event) (n : ℕ) → o ≡ Some n → (o >>= λ x. Some (event (form x))) ≡ Some (event (form n))
 then_said o form n e = ap (λ (p : Option ℕ). p >>= λ x. Some (event (form x))) e
 
-pub said_by_rules : {drivers : ℕ} {words : List (List ℕ)} {said : Said} → Says drivers words said → line_said drivers words ≡ Some said
+pub said_by_rules : {version drivers : ℕ} {words : List (List ℕ)} {said : Said} → Says version drivers words said → line_said version drivers words ≡ Some said
 said_by_rules rule.blank = refl
-said_by_rules (rule.load h g) = ap (λ (p : Option (ℕ × ℕ)). p >>= λ named. Some (event (e.Load named.0 named.1))) (named_is h g)
+said_by_rules {version} {drivers} (rule.load {d = d} {t = t} {i = i} {n = n} h g) =
+    ap (option_map event)
+    (after (driver_of drivers d) (λ x. task_of t >>= λ y. Some (e.Load x y 0)) i (driver_is h) ∙ after (task_of t) (λ y. Some (e.Load i y 0)) n (number_is g))
+said_by_rules {version} {drivers} (rule.load_restarts {d = d} {t = t} {r = r} {i = i} {n = n} {restarts = restarts} two h g k) =
+    let words = codes "restarts" ∷ r ∷ [] in
+    let number : restarts_said version words ≡ Some restarts = ap (λ v. cond (eqb v 2) (number_within 0 100 r) None) two ∙ number_is k in
+    ap (option_map event)
+    (after (driver_of drivers d) (λ x. task_of t >>= λ y. restarts_said version words >>= λ m. Some (e.Load x y m)) i (driver_is h)
+    ∙ after (task_of t) (λ y. restarts_said version words >>= λ m. Some (e.Load i y m)) n (number_is g)
+    ∙ after (restarts_said version words) (λ m. Some (e.Load i n m)) restarts number)
 said_by_rules (rule.restart h g) = ap (λ (p : Option (ℕ × ℕ)). p >>= λ named. Some (event (e.Restart named.0 named.1))) (named_is h g)
 said_by_rules (rule.unload {i = i} h) = then_said _ e.Unload i (driver_is h)
-said_by_rules {drivers} (rule.call {d = d} {t = t} {name = name} {words = ws} {i = i} {n = n} {vs = vs} h g named values few) =
+said_by_rules {version} {drivers} (rule.call {d = d} {t = t} {name = name} {words = ws} {i = i} {n = n} {vs = vs} h g named values few) =
     let all = values_are values in
     let call : ℕ → ℕ → List ℤ → Event = λ x y args. e.Call x y name args (length ws) in
     ap (option_map event)
@@ -278,8 +287,8 @@ said_by_rules (rule.kernel h) = ap (λ (p : Option KernelEvent). p >>= λ kernel
 said_by_rules rule.show = refl
 
 -- what is computed, the rules say
-along : (drivers : ℕ) (words words' : List (List ℕ)) (is said : Said) → words ≡ words' → Some is ≡ Some said → Says drivers words' is → Says drivers words said
-along drivers words words' is said e h d = subst (λ ws. Says drivers ws said) (sym e) (subst (Says drivers words') (same_Some _ _ h) d)
+along : (version drivers : ℕ) (words words' : List (List ℕ)) (is said : Said) → words ≡ words' → Some is ≡ Some said → Says version drivers words' is → Says version drivers words said
+along version drivers words words' is said e h d = subst (λ ws. Says version drivers ws said) (sym e) (subst (Says version drivers words') (same_Some _ _ h) d)
 
 spelled_more : (s : List ℕ) (words words' : List (List ℕ)) → words ≡ words' → s ∷ words ≡ s ∷ words'
 spelled_more s words words' e = ap (λ ws. s ∷ ws) e
@@ -296,83 +305,117 @@ named_has drivers words named h =
 number_alone : (most : ℕ) (words : List (List ℕ)) (n : ℕ) → only_number most words ≡ Some n → (w : List ℕ) × (words ≡ w ∷ []) × IsNumber 0 most w n
 number_alone most words n h = let w = bound (only_of words) _ n h in (w.x, only_has words w.x w.was, number_has 0 most w.x n w.then)
 
-call_has : (drivers : ℕ) (words : List (List ℕ)) (said : Event) → call_said drivers words ≡ Some said → Says drivers (codes "call" ∷ words) (event said)
-call_has drivers [] said h = absurd (cc)
-call_has drivers (d ∷ []) said h = absurd (cc)
-call_has drivers (d ∷ t ∷ []) said h = absurd (cc)
-call_has drivers (d ∷ t ∷ name ∷ ws) said h =
+-- behind dK T of a load
+record Restarted (version : ℕ) (words : List (List ℕ)) (n : ℕ) : Type 0 where
+  two : version ≡ 2
+  number : List ℕ
+  is : words ≡ codes "restarts" ∷ number ∷ []
+  value : IsNumber 0 100 number n
+
+by_word : (b : Bool) (word number : List ℕ) (n : ℕ) → bytes_eq word (codes "restarts") ≡ b → cond b (number_within 0 100 number) None ≡ Some n → (word ≡ codes "restarts") × IsNumber 0 100 number n
+by_word true word number n e h = ((bytes_eq-Decides word (codes "restarts")).0 e, number_has 0 100 number n h)
+by_word false word number n e h = absurd (cc)
+
+restarted : (b : Bool) (version : ℕ) (words : List (List ℕ)) (n : ℕ) → eqb version 2 ≡ b
+    → cond b (two_of words >>= λ two. cond (bytes_eq two.0 (codes "restarts")) (number_within 0 100 two.1) None) None ≡ Some n → Restarted version words n
+restarted true version words n e h =
+    let two = bound (two_of words) _ n h in
+    let found = by_word (bytes_eq two.x.0 (codes "restarts")) two.x.0 two.x.1 n refl two.then in
+    record { two = eqb-true version 2 e; number = two.x.1; is = two_has words two.x two.was ∙ ap (λ w. w ∷ two.x.1 ∷ []) found.0; value = found.1 }
+restarted false version words n e h = absurd (cc)
+
+load_by : (version drivers i n : ℕ) (d t : List ℕ) (words : List (List ℕ)) (r : ℕ) → restarts_said version words ≡ Some r → NamesDriver drivers d i → NamesTask t n
+    → Says version drivers (codes "load" ∷ d ∷ t ∷ words) (event (e.Load i n r))
+load_by version drivers i n d t [] r h named task = subst (λ k. Says version drivers (codes "load" ∷ d ∷ t ∷ []) (event (e.Load i n k))) (same_Some _ _ h) (rule.load named task)
+load_by version drivers i n d t (word ∷ words) r h named task =
+    let found = restarted (eqb version 2) version (word ∷ words) r refl h in
+    subst (λ ws. Says version drivers (codes "load" ∷ d ∷ t ∷ ws) (event (e.Load i n r))) (sym found.is) (rule.load_restarts found.two named task found.value)
+
+load_has : (version drivers : ℕ) (words : List (List ℕ)) (said : Event) → load_said version drivers words ≡ Some said → Says version drivers (codes "load" ∷ words) (event said)
+load_has version drivers [] said h = absurd (cc)
+load_has version drivers (d ∷ []) said h = absurd (cc)
+load_has version drivers (d ∷ t ∷ words) said h =
+    let driver = bound (driver_of drivers d) _ said h in
+    let task = bound (task_of t) _ said driver.then in
+    let restarts = bound (restarts_said version words) _ said task.then in
+    let rule = load_by version drivers driver.x task.x d t words restarts.x restarts.was (driver_has drivers d driver.x driver.was) (number_has 1 8 t task.x task.was) in
+    subst (λ s. Says version drivers (codes "load" ∷ d ∷ t ∷ words) (event s)) (same_Some _ _ restarts.then) rule
+
+call_has : (version drivers : ℕ) (words : List (List ℕ)) (said : Event) → call_said drivers words ≡ Some said → Says version drivers (codes "call" ∷ words) (event said)
+call_has version drivers [] said h = absurd (cc)
+call_has version drivers (d ∷ []) said h = absurd (cc)
+call_has version drivers (d ∷ t ∷ []) said h = absurd (cc)
+call_has version drivers (d ∷ t ∷ name ∷ ws) said h =
     let driver = bound (driver_of drivers d) _ said h in
     let task = bound (task_of t) _ said driver.then in
     let found = cond_some (is_name name && (are_values ws && leb (length ws) 8)) (e.Call driver.x task.x name (arguments_in ws) (length ws)) said task.then in
     let tests = both (is_name name) _ found.0 in
     let more = both (are_values ws) _ tests.1 in
     let values = values_have ws more.0 in
-    let rule : Says drivers (codes "call" ∷ d ∷ t ∷ name ∷ ws) (event (e.Call driver.x task.x name (eight (values_in ws)) (length ws))) =
+    let rule : Says version drivers (codes "call" ∷ d ∷ t ∷ name ∷ ws) (event (e.Call driver.x task.x name (eight (values_in ws)) (length ws))) =
     rule.call (driver_has drivers d driver.x driver.was) (number_has 1 8 t task.x task.was) tests.0 values (leb-true _ _ more.1) in
     let call : List ℤ → Event = λ args. e.Call driver.x task.x name args (length ws) in
-    subst (λ s. Says drivers (codes "call" ∷ d ∷ t ∷ name ∷ ws) (event s)) (ap call (sym (eight_are values)) ∙ found.1) rule
+    subst (λ s. Says version drivers (codes "call" ∷ d ∷ t ∷ name ∷ ws) (event s)) (ap call (sym (eight_are values)) ∙ found.1) rule
 
 not_none : (words : List (List ℕ)) → not (none_of words) ≡ true → (v : List ℕ) × (ws : List (List ℕ)) × (words ≡ v ∷ ws)
 not_none [] h = absurd (cc)
 not_none (v ∷ ws) h = (v, ws, refl)
 
-answer_has : (drivers : ℕ) (words : List (List ℕ)) (said : Said) → answers_said words ≡ Some said → Says drivers (codes "answer" ∷ words) said
-answer_has drivers [] said h = absurd (cc)
-answer_has drivers (p ∷ words) said h =
+answer_has : (version drivers : ℕ) (words : List (List ℕ)) (said : Said) → answers_said words ≡ Some said → Says version drivers (codes "answer" ∷ words) said
+answer_has version drivers [] said h = absurd (cc)
+answer_has version drivers (p ∷ words) said h =
     let port = bound (number_within 0 65535 p) _ said h in
     let found = cond_some (not (none_of words) && are_values words) (answers port.x (values_in words)) said port.then in
     let tests = both (not (none_of words)) _ found.0 in
     let some = not_none words tests.0 in
     let values : AreValues (some.0 ∷ some.1) (values_in words) = subst (λ ws. AreValues ws (values_in words)) some.2 (values_have words tests.1) in
-    let rule : Says drivers (codes "answer" ∷ p ∷ some.0 ∷ some.1) (answers port.x (values_in words)) = rule.answer (number_has 0 65535 p port.x port.was) values in
-    subst (Says drivers (codes "answer" ∷ p ∷ words)) found.1 (subst (λ ws. Says drivers (codes "answer" ∷ p ∷ ws) (answers port.x (values_in words))) (sym some.2) rule)
+    let rule : Says version drivers (codes "answer" ∷ p ∷ some.0 ∷ some.1) (answers port.x (values_in words)) = rule.answer (number_has 0 65535 p port.x port.was) values in
+    subst (Says version drivers (codes "answer" ∷ p ∷ words)) found.1 (subst (λ ws. Says version drivers (codes "answer" ∷ p ∷ ws) (answers port.x (values_in words))) (sym some.2) rule)
 
-keyword_has : (drivers : ℕ) (kw : Keyword) (words : List (List ℕ)) (said : Said) → keyword_said drivers kw words ≡ Some said → Says drivers (spelling kw ∷ words) said
-keyword_has drivers keyword.Load words said h =
+keyword_has : (version drivers : ℕ) (kw : Keyword) (words : List (List ℕ)) (said : Said) → keyword_said version drivers kw words ≡ Some said → Says version drivers (spelling kw ∷ words) said
+keyword_has version drivers keyword.Load words said h =
+    let load = mapped event (load_said version drivers words) said h in subst (Says version drivers (codes "load" ∷ words)) load.2 (load_has version drivers words load.0 load.1)
+keyword_has version drivers keyword.Restart words said h =
     let named = bound (driver_and_task drivers words) _ said h in
     let has = named_has drivers words named.x named.was in
-    along drivers _ _ _ said (spelled_more (codes "load") words _ has.2) named.then (rule.load has.3 has.4)
-keyword_has drivers keyword.Restart words said h =
-    let named = bound (driver_and_task drivers words) _ said h in
-    let has = named_has drivers words named.x named.was in
-    along drivers _ _ _ said (spelled_more (codes "restart") words _ has.2) named.then (rule.restart has.3 has.4)
-keyword_has drivers keyword.Unload words said h =
+    along version drivers _ _ _ said (spelled_more (codes "restart") words _ has.2) named.then (rule.restart has.3 has.4)
+keyword_has version drivers keyword.Unload words said h =
     let w = bound (only_of words) _ said h in
     let d = bound (driver_of drivers w.x) _ said w.then in
-    along drivers _ _ _ said (spelled_more (codes "unload") words _ (only_has words w.x w.was)) d.then (rule.unload (driver_has drivers w.x d.x d.was))
-keyword_has drivers keyword.Call words said h =
-    let call = mapped event (call_said drivers words) said h in subst (Says drivers (codes "call" ∷ words)) call.2 (call_has drivers words call.0 call.1)
-keyword_has drivers keyword.Run words said h =
+    along version drivers _ _ _ said (spelled_more (codes "unload") words _ (only_has words w.x w.was)) d.then (rule.unload (driver_has drivers w.x d.x d.was))
+keyword_has version drivers keyword.Call words said h =
+    let call = mapped event (call_said drivers words) said h in subst (Says version drivers (codes "call" ∷ words)) call.2 (call_has version drivers words call.0 call.1)
+keyword_has version drivers keyword.Run words said h =
     let two = bound (two_of words) _ said h in
     let t = bound (task_of two.x.0) _ said two.then in
     let n = bound (number_within 0 10000000 two.x.1) _ said t.then in
-    along drivers _ _ _ said (spelled_more (codes "run") words _ (two_has words two.x two.was)) n.then (rule.run (number_has 1 8 two.x.0 t.x t.was) (number_has 0 10000000 two.x.1 n.x n.was))
-keyword_has drivers keyword.Finish words said h =
+    along version drivers _ _ _ said (spelled_more (codes "run") words _ (two_has words two.x two.was)) n.then (rule.run (number_has 1 8 two.x.0 t.x t.was) (number_has 0 10000000 two.x.1 n.x n.was))
+keyword_has version drivers keyword.Finish words said h =
     let w = bound (only_of words) _ said h in
     let t = bound (task_of w.x) _ said w.then in
-    along drivers _ _ _ said (spelled_more (codes "finish") words _ (only_has words w.x w.was)) t.then (rule.finish (number_has 1 8 w.x t.x t.was))
-keyword_has drivers keyword.Irq words said h =
+    along version drivers _ _ _ said (spelled_more (codes "finish") words _ (only_has words w.x w.was)) t.then (rule.finish (number_has 1 8 w.x t.x t.was))
+keyword_has version drivers keyword.Irq words said h =
     let n = bound (only_number 63 words) _ said h in
     let has = number_alone 63 words n.x n.was in
-    along drivers _ _ _ said (spelled_more (codes "irq") words _ has.1) n.then (rule.irq has.2)
-keyword_has drivers keyword.Tick words said h =
+    along version drivers _ _ _ said (spelled_more (codes "irq") words _ has.1) n.then (rule.irq has.2)
+keyword_has version drivers keyword.Tick words said h =
     let n = bound (only_number 1000000 words) _ said h in
     let has = number_alone 1000000 words n.x n.was in
-    along drivers _ _ _ said (spelled_more (codes "tick") words _ has.1) n.then (rule.tick has.2)
-keyword_has drivers keyword.Work words said h =
+    along version drivers _ _ _ said (spelled_more (codes "tick") words _ has.1) n.then (rule.tick has.2)
+keyword_has version drivers keyword.Work words said h =
     let n = bound (only_number 256 words) _ said h in
     let has = number_alone 256 words n.x n.was in
-    along drivers _ _ _ said (spelled_more (codes "work") words _ has.1) n.then (rule.work has.2)
-keyword_has drivers keyword.Answer words said h = answer_has drivers words said h
-keyword_has drivers keyword.Kernel words said h =
+    along version drivers _ _ _ said (spelled_more (codes "work") words _ has.1) n.then (rule.work has.2)
+keyword_has version drivers keyword.Answer words said h = answer_has version drivers words said h
+keyword_has version drivers keyword.Kernel words said h =
     let kernel = bound (kernel_said words) _ said h in
-    along drivers _ _ _ said refl kernel.then (rule.kernel (kernel_has words kernel.x kernel.was))
-keyword_has drivers keyword.Show words said h =
+    along version drivers _ _ _ said refl kernel.then (rule.kernel (kernel_has words kernel.x kernel.was))
+keyword_has version drivers keyword.Show words said h =
     let found = cond_some (none_of words) (event e.Show) said h in
-    subst (Says drivers (codes "show" ∷ words)) found.1 (subst (λ ws. Says drivers (codes "show" ∷ ws) (event e.Show)) (sym (none_has words found.0)) rule.show)
+    subst (Says version drivers (codes "show" ∷ words)) found.1 (subst (λ ws. Says version drivers (codes "show" ∷ ws) (event e.Show)) (sym (none_has words found.0)) rule.show)
 
-pub rules_of_said : (drivers : ℕ) (words : List (List ℕ)) (said : Said) → line_said drivers words ≡ Some said → Says drivers words said
-rules_of_said drivers [] said h = subst (Says drivers []) (same_Some _ _ h) rule.blank
-rules_of_said drivers (w ∷ words) said h =
+pub rules_of_said : (version drivers : ℕ) (words : List (List ℕ)) (said : Said) → line_said version drivers words ≡ Some said → Says version drivers words said
+rules_of_said version drivers [] said h = subst (Says version drivers []) (same_Some _ _ h) rule.blank
+rules_of_said version drivers (w ∷ words) said h =
     let kw = bound (keyword_of w) _ said h in
-    subst (λ s. Says drivers (s ∷ words) said) (sym (spelled w kw.x kw.was)) (keyword_has drivers kw.x words said kw.then)
+    subst (λ s. Says version drivers (s ∷ words) said) (sym (spelled w kw.x kw.was)) (keyword_has version drivers kw.x words said kw.then)

@@ -1,6 +1,6 @@
 -- The forms of a scenario's lines: what the words of a line say.
--- Here: Said; event_said, kernel_said, answers_said; line_said
-use Rattle.std.specs.Prelude.{ℕ, Bool, true, false, not, ◌&&◌, List, [], ◌∷◌, length, nat_le, Option, Some, None, is_some, unwrap_or, slice_get, if◌then◌else◌, ℤ, pos}
+-- Here: Said; load_said, call_said, kernel_said, answers_said; line_said
+use Rattle.std.specs.Prelude.{ℕ, Bool, true, false, not, ◌==◌, ◌&&◌, bytes_eq, codes, List, [], ◌∷◌, length, nat_le, Option, Some, None, is_some, unwrap_or, slice_get, if◌then◌else◌, ℤ, pos}
 use Rattle.std.specs.List.{filter_map, list_all}
 use Rattle.std.specs.Option.{option_map, option_and_then}
 use Rattle.scenario.specs.declared.keywords.Keyword.{Keyword}
@@ -71,6 +71,18 @@ only_number most words = only_of words >>= λ word. number_within 0 most word
 abbrev pub only_value : List (List ℕ) → Option ℤ
 only_value words = only_of words >>= signed_of
 
+-- behind dK T of a load: nothing, which is 0, or in version 2 `restarts N`, N to 100
+abbrev pub restarts_said : ℕ → List (List ℕ) → Option ℕ
+restarts_said version [] = Some 0
+restarts_said version (word ∷ words) = if version == 2 then (two_of (word ∷ words) >>= λ two. if bytes_eq two.0 (codes "restarts") then number_within 0 100 two.1 else None) else None
+
+-- load dK T, and in version 2 load dK T restarts N
+abbrev pub load_said : ℕ → ℕ → List (List ℕ) → Option Event
+load_said version drivers [] = None
+load_said version drivers (driver ∷ []) = None
+load_said version drivers (driver ∷ task ∷ words) =
+    driver_of drivers driver >>= λ d. task_of task >>= λ t. restarts_said version words >>= λ restarts. Some (e.Load d t restarts)
+
 -- call dK T NAME, and 0 to 8 V
 abbrev pub call_said : ℕ → List (List ℕ) → Option Event
 call_said drivers [] = None
@@ -100,22 +112,30 @@ abbrev pub answers_said : List (List ℕ) → Option Said
 answers_said [] = None
 answers_said (port ∷ words) = number_within 0 65535 port >>= λ p. if not (none_of words) && are_values words then Some (answers p (values_in words)) else None
 
--- What a line says that begins with the keyword.
-abbrev pub keyword_said : ℕ → Keyword → List (List ℕ) → Option Said
-keyword_said drivers keyword.Load words = driver_and_task drivers words >>= λ named. Some (event (e.Load named.0 named.1))
-keyword_said drivers keyword.Restart words = driver_and_task drivers words >>= λ named. Some (event (e.Restart named.0 named.1))
-keyword_said drivers keyword.Unload words = only_of words >>= λ word. driver_of drivers word >>= λ driver. Some (event (e.Unload driver))
-keyword_said drivers keyword.Call words = option_map event (call_said drivers words)
-keyword_said drivers keyword.Run words = two_of words >>= λ two. task_of two.0 >>= λ task. number_within 0 10000000 two.1 >>= λ n. Some (event (e.Run task n))
-keyword_said drivers keyword.Finish words = only_of words >>= λ word. task_of word >>= λ task. Some (event (e.Finish task))
-keyword_said drivers keyword.Irq words = only_number 63 words >>= λ line. Some (event (e.Irq line))
-keyword_said drivers keyword.Tick words = only_number 1000000 words >>= λ n. Some (event (e.Tick n))
-keyword_said drivers keyword.Work words = only_number 256 words >>= λ n. Some (event (e.Work n))
-keyword_said drivers keyword.Answer words = answers_said words
-keyword_said drivers keyword.Kernel words = kernel_said words >>= λ kernel. Some (event (e.Kernel kernel))
-keyword_said drivers keyword.Show words = if none_of words then Some (event e.Show) else None
+-- version 2, which as the first line with words gives a scenario its version
+abbrev pub is_version_two : List (List ℕ) → Bool
+is_version_two [] = false
+is_version_two (word ∷ []) = false
+is_version_two (word ∷ number ∷ []) = bytes_eq word (codes "version") && bytes_eq number (codes "2")
+is_version_two (word ∷ number ∷ last ∷ words) = false
 
--- What the words of a line say, of this many drivers; nothing where there are none, and None where they have no reading.
-abbrev pub line_said : ℕ → List (List ℕ) → Option Said
-line_said drivers [] = Some nothing
-line_said drivers (word ∷ words) = keyword_of word >>= λ keyword. keyword_said drivers keyword words
+-- What a line says that begins with the keyword, in a scenario of the version.
+abbrev pub keyword_said : ℕ → ℕ → Keyword → List (List ℕ) → Option Said
+keyword_said version drivers keyword.Load words = option_map event (load_said version drivers words)
+keyword_said version drivers keyword.Restart words = driver_and_task drivers words >>= λ named. Some (event (e.Restart named.0 named.1))
+keyword_said version drivers keyword.Unload words = only_of words >>= λ word. driver_of drivers word >>= λ driver. Some (event (e.Unload driver))
+keyword_said version drivers keyword.Call words = option_map event (call_said drivers words)
+keyword_said version drivers keyword.Run words = two_of words >>= λ two. task_of two.0 >>= λ task. number_within 0 10000000 two.1 >>= λ n. Some (event (e.Run task n))
+keyword_said version drivers keyword.Finish words = only_of words >>= λ word. task_of word >>= λ task. Some (event (e.Finish task))
+keyword_said version drivers keyword.Irq words = only_number 63 words >>= λ line. Some (event (e.Irq line))
+keyword_said version drivers keyword.Tick words = only_number 1000000 words >>= λ n. Some (event (e.Tick n))
+keyword_said version drivers keyword.Work words = only_number 256 words >>= λ n. Some (event (e.Work n))
+keyword_said version drivers keyword.Answer words = answers_said words
+keyword_said version drivers keyword.Kernel words = kernel_said words >>= λ kernel. Some (event (e.Kernel kernel))
+keyword_said version drivers keyword.Show words = if none_of words then Some (event e.Show) else None
+
+-- What the words of a line say in a scenario of the version, of this many drivers; nothing where there are none, and None where they
+-- have no reading.
+abbrev pub line_said : ℕ → ℕ → List (List ℕ) → Option Said
+line_said version drivers [] = Some nothing
+line_said version drivers (word ∷ words) = keyword_of word >>= λ keyword. keyword_said version drivers keyword words

@@ -3,6 +3,7 @@ pub mod Numbers
 pub mod Keywords
 pub mod Forms
 pub mod Readings
+pub mod Stages
 pub mod Scenarios
 pub mod Fits
 pub mod Rules

@@ -48,19 +48,21 @@ pub data KernelDoes : List (List ℕ) → KernelEvent → Type 0 where
   lock : {v : List ℕ} {i : ℤ} → IsValue v i → KernelDoes (codes "lock" ∷ v ∷ []) (k.Lock i)
   unlock : {v : List ℕ} {i : ℤ} → IsValue v i → KernelDoes (codes "unlock" ∷ v ∷ []) (k.Unlock i)
 
--- What the words of a line say, of this many drivers.
-pub data Says (drivers : ℕ) : List (List ℕ) → Said → Type 0 where
-  blank : Says drivers [] nothing
-  load : {d t : List ℕ} {i n : ℕ} → NamesDriver drivers d i → NamesTask t n → Says drivers (codes "load" ∷ d ∷ t ∷ []) (event (e.Load i n))
-  restart : {d t : List ℕ} {i n : ℕ} → NamesDriver drivers d i → NamesTask t n → Says drivers (codes "restart" ∷ d ∷ t ∷ []) (event (e.Restart i n))
-  unload : {d : List ℕ} {i : ℕ} → NamesDriver drivers d i → Says drivers (codes "unload" ∷ d ∷ []) (event (e.Unload i))
+-- What the words of a line say in a scenario of the version, of this many drivers.
+pub data Says (version drivers : ℕ) : List (List ℕ) → Said → Type 0 where
+  blank : Says version drivers [] nothing
+  load : {d t : List ℕ} {i n : ℕ} → NamesDriver drivers d i → NamesTask t n → Says version drivers (codes "load" ∷ d ∷ t ∷ []) (event (e.Load i n 0))
+  load_restarts : {d t r : List ℕ} {i n restarts : ℕ} → version ≡ 2 → NamesDriver drivers d i → NamesTask t n → IsNumber 0 100 r restarts
+      → Says version drivers (codes "load" ∷ d ∷ t ∷ codes "restarts" ∷ r ∷ []) (event (e.Load i n restarts))
+  restart : {d t : List ℕ} {i n : ℕ} → NamesDriver drivers d i → NamesTask t n → Says version drivers (codes "restart" ∷ d ∷ t ∷ []) (event (e.Restart i n))
+  unload : {d : List ℕ} {i : ℕ} → NamesDriver drivers d i → Says version drivers (codes "unload" ∷ d ∷ []) (event (e.Unload i))
   call : {d t name : List ℕ} {words : List (List ℕ)} {i n : ℕ} {vs : List ℤ} → NamesDriver drivers d i → NamesTask t n → is_name name ≡ true
-      → AreValues words vs → length words ≤ 8 → Says drivers (codes "call" ∷ d ∷ t ∷ name ∷ words) (event (e.Call i n name (eight vs) (length words)))
-  run : {t s : List ℕ} {n steps : ℕ} → NamesTask t n → IsNumber 0 10000000 s steps → Says drivers (codes "run" ∷ t ∷ s ∷ []) (event (e.Run n steps))
-  finish : {t : List ℕ} {n : ℕ} → NamesTask t n → Says drivers (codes "finish" ∷ t ∷ []) (event (e.Finish n))
-  irq : {l : List ℕ} {n : ℕ} → IsNumber 0 63 l n → Says drivers (codes "irq" ∷ l ∷ []) (event (e.Irq n))
-  tick : {w : List ℕ} {n : ℕ} → IsNumber 0 1000000 w n → Says drivers (codes "tick" ∷ w ∷ []) (event (e.Tick n))
-  work : {w : List ℕ} {n : ℕ} → IsNumber 0 256 w n → Says drivers (codes "work" ∷ w ∷ []) (event (e.Work n))
-  answer : {p v : List ℕ} {words : List (List ℕ)} {n : ℕ} {vs : List ℤ} → IsNumber 0 65535 p n → AreValues (v ∷ words) vs → Says drivers (codes "answer" ∷ p ∷ v ∷ words) (answers n vs)
-  kernel : {words : List (List ℕ)} {does : KernelEvent} → KernelDoes words does → Says drivers (codes "kernel" ∷ words) (event (e.Kernel does))
-  show : Says drivers (codes "show" ∷ []) (event e.Show)
+      → AreValues words vs → length words ≤ 8 → Says version drivers (codes "call" ∷ d ∷ t ∷ name ∷ words) (event (e.Call i n name (eight vs) (length words)))
+  run : {t s : List ℕ} {n steps : ℕ} → NamesTask t n → IsNumber 0 10000000 s steps → Says version drivers (codes "run" ∷ t ∷ s ∷ []) (event (e.Run n steps))
+  finish : {t : List ℕ} {n : ℕ} → NamesTask t n → Says version drivers (codes "finish" ∷ t ∷ []) (event (e.Finish n))
+  irq : {l : List ℕ} {n : ℕ} → IsNumber 0 63 l n → Says version drivers (codes "irq" ∷ l ∷ []) (event (e.Irq n))
+  tick : {w : List ℕ} {n : ℕ} → IsNumber 0 1000000 w n → Says version drivers (codes "tick" ∷ w ∷ []) (event (e.Tick n))
+  work : {w : List ℕ} {n : ℕ} → IsNumber 0 256 w n → Says version drivers (codes "work" ∷ w ∷ []) (event (e.Work n))
+  answer : {p v : List ℕ} {words : List (List ℕ)} {n : ℕ} {vs : List ℤ} → IsNumber 0 65535 p n → AreValues (v ∷ words) vs → Says version drivers (codes "answer" ∷ p ∷ v ∷ words) (answers n vs)
+  kernel : {words : List (List ℕ)} {does : KernelEvent} → KernelDoes words does → Says version drivers (codes "kernel" ∷ words) (event (e.Kernel does))
+  show : Says version drivers (codes "show" ∷ []) (event e.Show)

@@ -1,5 +1,5 @@
 -- What a scenario's text reads as: the events of its lines and the answers that it scripts, or its first refusal.
--- Here: refusal_at, first_refusal; events_said, answers_given; scenario_of
+-- Here: version_of, saids_of; refusal_at, first_refusal; events_said, answers_given; scenario_of
 use Rattle.std.specs.Prelude.{ℕ, ◌+◌, nat_lt, List, [], ◌∷◌, length, take, map, slice_index_or, Option, Some, None, Result, Ok, Err, if◌then◌else◌, ℤ}
 use Rattle.std.specs.List.{flat_map, range_with_len}
 use Rattle.scenario.specs.declared.event.Event.{Event}
@@ -8,11 +8,33 @@ use Rattle.scenario.specs.declared.refusal.ScenarioLimit.TheVariants as limit
 use Rattle.scenario.specs.declared.refusal.ScenarioRefusal.{ScenarioRefusal}
 use Rattle.scenario.specs.declared.refusal.ScenarioRefusal.TheVariants as refusal
 use Rattle.scenario.specs.Words.{lines_of, words_of}
-use Rattle.scenario.specs.Forms.{Said, nothing, event, answers, line_said}
+use Rattle.scenario.specs.Forms.{Said, nothing, event, answers, is_version_two, line_said}
 
--- What each line of a text says, blank lines included.
+-- The version of lines: 2 where the first of them that has words is `version 2`, else 1.
+abbrev pub version_in : List (List (List ℕ)) → ℕ
+version_in [] = 1
+version_in ([] ∷ lines) = version_in lines
+version_in ((word ∷ words) ∷ lines) = if is_version_two (word ∷ words) then 2 else 1
+
+-- What each line says, lines without words included. `version 2` as the first line with words says nothing but that all lines behind
+-- it are those of version 2.
+abbrev pub lines_said : ℕ → List (List (List ℕ)) → List (Option Said)
+lines_said drivers [] = []
+lines_said drivers ([] ∷ lines) = Some nothing ∷ lines_said drivers lines
+lines_said drivers ((word ∷ words) ∷ lines) =
+    if is_version_two (word ∷ words) then Some nothing ∷ map (line_said 2 drivers) lines else map (line_said 1 drivers) ((word ∷ words) ∷ lines)
+
+-- the words of each line of a text
+abbrev pub worded : List ℕ → List (List (List ℕ))
+worded text = map words_of (lines_of text)
+
+-- The version of a text.
+abbrev pub version_of : List ℕ → ℕ
+version_of text = version_in (worded text)
+
+-- What each line of a text says.
 abbrev pub saids_of : ℕ → List ℕ → List (Option Said)
-saids_of drivers text = map (λ line. line_said drivers (words_of line)) (lines_of text)
+saids_of drivers text = lines_said drivers (worded text)
 
 -- the values that a line gives
 abbrev pub given_by : Option Said → List ℤ

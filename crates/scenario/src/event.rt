@@ -5,10 +5,12 @@ use sd_base::Name;
 /// What one line of a scenario makes happen.
 #[derive(Clone, Copy, Debug, PartialEq, Eq)]
 pub enum Event {
-    /// `load dK T`: the driver is loaded, and its `init` starts on the task.
+    /// `load dK T`: the driver is loaded, and its `init` starts on the task. After a failure it is started anew so many times at most,
+    /// to 100; `load dK T restarts N` names the number, which is 0 where none is named.
     Load {
         driver: u8,
         task: u8,
+        restarts: u8,
     },
     /// `restart dK T`: a failed driver is loaded anew.
     Restart {

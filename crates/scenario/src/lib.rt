@@ -1,4 +1,4 @@
-//! Scenario texts: the events of a run and the answers of its devices, read line by line.
+//! Scenario texts of both versions: the events of a run and the answers of its devices, read line by line.
 #![tactic(auto)]
 
 mod event;
@@ -9,6 +9,7 @@ mod lines;
 mod numbers;
 mod plan;
 mod refusal;
+mod stages;
 mod values;
 mod words;
 
@@ -16,6 +17,3 @@ pub use event::{Event, KernelEvent};
 pub use laws::lines_read_by_their_rules;
 pub use plan::{Scenario, read_scenario};
 pub use refusal::{ScenarioLimit, ScenarioRefusal};
-
-#[cfg(test)]
-mod tests;

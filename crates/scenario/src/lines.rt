@@ -3,7 +3,7 @@
 ghost use Rattle.std.specs.Prelude.{◌≡◌, IfSome};
 ghost use Rattle.std.specs.Option.{option_map};
 ghost use Rattle.scenario.specs.Words.{pieces_of, words_of};
-ghost use Rattle.scenario.specs.Forms.{event, call_said, kernel_arguments, kernel_said, answers_said, keyword_said, line_said};
+ghost use Rattle.scenario.specs.Forms.{event, restarts_said, load_said, call_said, kernel_arguments, kernel_said, answers_said, keyword_said, line_said};
 ghost use Rattle.scenario.specs.Readings.{said_by, IsCounted};
 
 use crate::event::{Event, KernelEvent};
@@ -17,6 +17,10 @@ use crate::words::{before_comment, first_word};
 use sd_base::Name;
 use sd_base::limits::STEP_BOUND;
 
+/// The version that lets a load name restarts.
+const RESTARTING: u8 = 2;
+/// The most restarts of a load.
+const MOST_RESTARTS: u32 = 100;
 /// The most arguments of a call.
 const ARGUMENTS: usize = 8;
 /// The greatest port.
@@ -106,17 +110,43 @@ fn read_answers(line: &[u8]) -> Option<Reading<'_>>
     })
 }
 
-/// `load dK T`.
-fn read_load(line: &[u8], drivers: u8) -> Option<Event>
-    ensures { option_map event result ≡ keyword_said drivers Keyword.Load (pieces_of line.now) }
+/// `restarts N`, which only version 2 has; 0 where nothing stands there.
+fn read_restarts(line: &[u8], version: u8) -> Option<u8>
+    ensures { result ≡ restarts_said version (pieces_of line.now) }
 {
-    let (driver, task) = read_driver_and_task(line, drivers)?;
-    Some(Event::Load { driver, task })
+    if has_no_word(line) {
+        return Some(0);
+    }
+    if version != RESTARTING {
+        return None;
+    }
+    let (word, number) = two_words(line)?;
+    if word != b"restarts".as_slice() {
+        return None;
+    }
+    let restarts = read_number(number, 0, MOST_RESTARTS)?;
+    Some(restarts as u8)
+}
+
+/// `load dK T`, and in version 2 `load dK T restarts N`.
+fn read_load(line: &[u8], version: u8, drivers: u8) -> Option<Event>
+    ensures { result ≡ load_said version drivers (pieces_of line.now) }
+{
+    let (driver, after_driver) = first_word(line)?;
+    let (task, after_task) = first_word(after_driver)?;
+    let driver = read_driver(driver, drivers)?;
+    let task = read_task(task)?;
+    let restarts = read_restarts(after_task, version)?;
+    Some(Event::Load {
+        driver,
+        task,
+        restarts,
+    })
 }
 
 /// `restart dK T`.
 fn read_restart(line: &[u8], drivers: u8) -> Option<Event>
-    ensures { option_map event result ≡ keyword_said drivers Keyword.Restart (pieces_of line.now) }
+    ensures { option_map event result ≡ keyword_said 1 drivers Keyword.Restart (pieces_of line.now) }
 {
     let (driver, task) = read_driver_and_task(line, drivers)?;
     Some(Event::Restart { driver, task })
@@ -124,7 +154,7 @@ fn read_restart(line: &[u8], drivers: u8) -> Option<Event>
 
 /// `unload dK`.
 fn read_unload(line: &[u8], drivers: u8) -> Option<Event>
-    ensures { option_map event result ≡ keyword_said drivers Keyword.Unload (pieces_of line.now) }
+    ensures { option_map event result ≡ keyword_said 1 drivers Keyword.Unload (pieces_of line.now) }
 {
     let word = only_word(line)?;
     let driver = read_driver(word, drivers)?;
@@ -133,7 +163,7 @@ fn read_unload(line: &[u8], drivers: u8) -> Option<Event>
 
 /// `run T N`.
 fn read_run(line: &[u8]) -> Option<Event>
-    ensures { option_map event result ≡ keyword_said 0 Keyword.Run (pieces_of line.now) }
+    ensures { option_map event result ≡ keyword_said 1 0 Keyword.Run (pieces_of line.now) }
 {
     let (task, steps) = two_words(line)?;
     let task = read_task(task)?;
@@ -143,7 +173,7 @@ fn read_run(line: &[u8]) -> Option<Event>
 
 /// `finish T`.
 fn read_finish(line: &[u8]) -> Option<Event>
-    ensures { option_map event result ≡ keyword_said 0 Keyword.Finish (pieces_of line.now) }
+    ensures { option_map event result ≡ keyword_said 1 0 Keyword.Finish (pieces_of line.now) }
 {
     let word = only_word(line)?;
     let task = read_task(word)?;
@@ -152,7 +182,7 @@ fn read_finish(line: &[u8]) -> Option<Event>
 
 /// `irq L`.
 fn read_irq(line: &[u8]) -> Option<Event>
-    ensures { option_map event result ≡ keyword_said 0 Keyword.Irq (pieces_of line.now) }
+    ensures { option_map event result ≡ keyword_said 1 0 Keyword.Irq (pieces_of line.now) }
 {
     let number = read_only_number(line, LAST_LINE)?;
     Some(Event::Irq { line: number as u8 })
@@ -160,7 +190,7 @@ fn read_irq(line: &[u8]) -> Option<Event>
 
 /// `tick N`.
 fn read_tick(line: &[u8]) -> Option<Event>
-    ensures { option_map event result ≡ keyword_said 0 Keyword.Tick (pieces_of line.now) }
+    ensures { option_map event result ≡ keyword_said 1 0 Keyword.Tick (pieces_of line.now) }
 {
     let n = read_only_number(line, LONGEST_TICK)?;
     Some(Event::Tick { n })
@@ -168,7 +198,7 @@ fn read_tick(line: &[u8]) -> Option<Event>
 
 /// `work N`.
 fn read_work(line: &[u8]) -> Option<Event>
-    ensures { option_map event result ≡ keyword_said 0 Keyword.Work (pieces_of line.now) }
+    ensures { option_map event result ≡ keyword_said 1 0 Keyword.Work (pieces_of line.now) }
 {
     let n = read_only_number(line, MOST_WORK)?;
     Some(Event::Work { n })
@@ -176,7 +206,7 @@ fn read_work(line: &[u8]) -> Option<Event>
 
 /// `show`.
 fn read_show(line: &[u8]) -> Option<Event>
-    ensures { option_map event result ≡ keyword_said 0 Keyword.Show (pieces_of line.now) }
+    ensures { option_map event result ≡ keyword_said 1 0 Keyword.Show (pieces_of line.now) }
 {
     if has_no_word(line) {
         Some(Event::Show)
@@ -186,12 +216,12 @@ fn read_show(line: &[u8]) -> Option<Event>
 }
 
 /// What a line says that begins with the keyword.
-fn read_keyword_line(keyword: Keyword, line: &[u8], drivers: u8) -> Option<Reading<'_>>
-    ensures said { option_map said_by result ≡ keyword_said drivers keyword (pieces_of line.now) }
+fn read_keyword_line(keyword: Keyword, line: &[u8], version: u8, drivers: u8) -> Option<Reading<'_>>
+    ensures said { option_map said_by result ≡ keyword_said version drivers keyword (pieces_of line.now) }
     ensures counted { IfSome result IsCounted }
 {
     match keyword {
-        Keyword::Load => Some(Reading::Event(read_load(line, drivers)?)),
+        Keyword::Load => Some(Reading::Event(read_load(line, version, drivers)?)),
         Keyword::Restart => Some(Reading::Event(read_restart(line, drivers)?)),
         Keyword::Unload => Some(Reading::Event(read_unload(line, drivers)?)),
         Keyword::Call => Some(Reading::Event(read_call(line, drivers)?)),
@@ -206,14 +236,14 @@ fn read_keyword_line(keyword: Keyword, line: &[u8], drivers: u8) -> Option<Readi
     }
 }
 
-/// What a line says; `None` where it has no reading.
-pub fn read_line(line: &[u8], drivers: u8) -> Option<Reading<'_>>
-    ensures said { option_map said_by result ≡ line_said drivers (words_of line.now) }
+/// What a line says in a scenario of this version; `None` where it has no reading.
+pub fn read_line(line: &[u8], version: u8, drivers: u8) -> Option<Reading<'_>>
+    ensures said { option_map said_by result ≡ line_said version drivers (words_of line.now) }
     ensures counted { IfSome result IsCounted }
 {
     let Some((word, rest)) = first_word(before_comment(line)) else {
         return Some(Reading::Nothing);
     };
     let keyword = read_keyword(word)?;
-    read_keyword_line(keyword, rest, drivers)
+    read_keyword_line(keyword, rest, version, drivers)
 }

@@ -10,8 +10,6 @@ mod memory_sink;
 mod read;
 mod shelf;
 mod sink;
-#[cfg(test)]
-mod tests;
 mod texts;
 mod write;
 

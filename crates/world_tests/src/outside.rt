@@ -2,7 +2,7 @@
 ghost use Rattle.std.specs.Prelude.{IsTrue, IfOk, map};
 ghost use Rattle.sd_outside.specs.Texts.{text_of, names_differ};
 
-use crate::{
+use sd_outside::{
     CalmShelf, CalmSink, FileShelf, MemShelf, MemSink, OutSink, Shelf, TextFault, WriteFault,
     read_text, write_all,
 };

@@ -22,4 +22,5 @@ pub mod ShortUnits
 pub mod Refusals
 pub mod Bodies
 pub mod Units
+pub mod ExpressionAlone
 mod Examples

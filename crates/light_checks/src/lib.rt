@@ -1,8 +1,10 @@
 //! No check that the rules ask for in a short unit is too heavy to be numbered.
 #![tactic(auto)]
 
+mod expressions;
 mod laws;
 
+pub use expressions::an_expression_alone_is_refused_where_no_rule_derives_it;
 pub use laws::{
     a_condition_has_numbers, a_refused_body_has_a_line_without_rule,
     a_refused_condition_has_no_rule, a_refused_statement_has_no_rule,

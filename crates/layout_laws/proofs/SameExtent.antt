@@ -65,11 +65,11 @@ if_true true x a h = refl
 if_true false x a h = absurd cc
 
 -- what a field that stands has: its count, and an extent that later structs do not change
-record Declares (at : Surroundings) (now : List Extent) (d : Declaration) (x : Shape × ℕ) : Type 0 where
-  extent : type_extent at.types at.extents d.type_name ≡ type_extent at.types now d.type_name
-  count : element_count d.size ≡ Some x.1
+pub record Declares (at : Surroundings) (now : List Extent) (d : Declaration) (x : Shape × ℕ) : Type 0 where
+  pub extent : type_extent at.types at.extents d.type_name ≡ type_extent at.types now d.type_name
+  pub count : element_count d.size ≡ Some x.1
 
-declares : (at : Surroundings) (now : List Extent) (laying : Laying) (d : Declaration) (x : Shape × ℕ)
+pub declares : (at : Surroundings) (now : List Extent) (laying : Laying) (d : Declaration) (x : Shape × ℕ)
     → AgreeBelow at.number at.extents now → field_declared at laying d ≡ Some x → Declares at now d x
 unfolding field_declared field_shape
 declares at now laying d x agree h =
@@ -108,7 +108,7 @@ is_placed laying line x count extent out h =
     let same : next ≡ out = cc in subst (λ (o : Laying). IsPlaced laying count extent o) same is
 
 -- the same struct, when the extents of later structs are known
-abbrev later : Surroundings → List Extent → Surroundings
+abbrev pub later : Surroundings → List Extent → Surroundings
 later at now = record { types = at.types; extents = now; number = at.number; siblings = at.siblings }
 
 same_place : (x y : Laying) (c d : ℕ) (e f : Extent) (o p : Laying) → Same x y → c ≡ d → e ≡ f → IsPlaced x c e o → IsPlaced y d f p → Same o p

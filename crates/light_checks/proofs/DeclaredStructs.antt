@@ -201,7 +201,7 @@ limits_hold line fields end out h =
     let b = two_limits (nat_le 64 fields) (nat_lt 65536 end) (refusal.Limit line limit.Fields) (refusal.Limit line limit.Size) end out h in
     (leb-false 64 fields b.0, ltb-false 65536 end b.1)
 
-if_true : {A : Type 0} (t : Bool) (x : Option A) (a : A) → (if t then x else None) ≡ Some a → t ≡ true
+pub if_true : {A : Type 0} (t : Bool) (x : Option A) (a : A) → (if t then x else None) ≡ Some a → t ≡ true
 if_true true x a h = refl
 if_true false x a h = absurd cc
 

@@ -17,6 +17,7 @@ pub mod DeclaredSlots
 pub mod DeclaredHeads
 pub mod DeclaredStructs
 pub mod DeclaredUnits
+pub mod SecondShapes
 pub mod FoundKeys
 pub mod ShortUnits
 pub mod Refusals

@@ -18,6 +18,7 @@ pub mod DeclaredHeads
 pub mod DeclaredStructs
 pub mod DeclaredUnits
 pub mod SecondShapes
+pub mod SecondLayouts
 pub mod FoundKeys
 pub mod ShortUnits
 pub mod Refusals

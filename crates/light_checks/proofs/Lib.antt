@@ -22,6 +22,7 @@ pub mod SecondLayouts
 pub mod FoundKeys
 pub mod ShortUnits
 pub mod Refusals
+pub mod SecondPasses
 pub mod Bodies
 pub mod Units
 pub mod ExpressionAlone

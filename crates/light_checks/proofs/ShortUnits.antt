@@ -125,7 +125,7 @@ items_readable [] all = tt
 items_readable (x ∷ xs) all =
     (item_readable x (All-head (λ x. IsShort (item_words x) (item_pieces x)) x xs all), items_readable xs (All-tail (λ x. IsShort (item_words x) (item_pieces x)) x xs all))
 
-unit_readable : (u : TextUnit) → IsShortUnit u → AreReadableItems u.items
+pub unit_readable : (u : TextUnit) → IsShortUnit u → AreReadableItems u.items
 unit_readable u short = items_readable u.items (short_each item_words item_pieces u.items short.within)
 
 -- ---- the table

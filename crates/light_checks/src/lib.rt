@@ -3,6 +3,7 @@
 
 mod expressions;
 mod laws;
+mod structs;
 
 pub use expressions::an_expression_alone_is_refused_where_no_rule_derives_it;
 pub use laws::{
@@ -11,3 +12,4 @@ pub use laws::{
     a_refused_unit_has_its_reason, a_short_unit_has_a_table_within, a_simple_statement_has_numbers,
     an_expression_has_numbers, light_checks_have_numbers,
 };
+pub use structs::structs_are_laid_out_again;

@@ -30,7 +30,8 @@ module _ (ctx : Context) (is : IsInFunction ctx) where
   unfolding expression_alone
   alone_refused e b fault short h =
       let here = statement_context ctx ctx.line b in
-      let inside = at_line_within ctx ctx.line b within in
-      (line_fault ctx.line b (expression here e []) fault h,
+      let inside = at_line_within ctx ctx.line b within in (
+        line_fault ctx.line b (expression here e []) fault h,
         none_refused ctx.line b (expression here e []) fault
-        (λ x asked found. numbers_of asked (all_light (expression here e) Any x asked (expression_is here inside e short) found) b) h)
+            (λ x asked found. numbers_of asked (all_light (expression here e) Any x asked (expression_is here inside e short) found) b) h,
+      )

@@ -130,15 +130,15 @@ module _ (at : Surroundings) (now : List Extent) (agree : AgreeBelow at.number a
       let next : Laying = record { members = x.members ++ member ∷ []; unions = x.unions; names = x.names; end = p.0; align = max x.align extent.align; fields = x.fields + 1 } in
       let is : next ≡ out = cc in
       let found : or_no_decl line (field_declared again (with_members x ms) d) ≡ Ok (z.0, a.0.1) =
-          ap (λ (k : ℕ). or_no_decl line (if is_first at.siblings k None d.name && not (list_any (bytes_eq d.name) x.names) then counted (field_shape again k d) (element_count d.size) else None)) (sym longs)
-          ∙ (ap (λ (b : Bool). or_no_decl line (if b then counted (field_shape again m d) (element_count d.size) else None)) new
-          ∙ (ap (λ (o : Option Shape). or_no_decl line (counted o (element_count d.size))) z.1
-          ∙ (ap (λ (o : Option ℕ). or_no_decl line (option_map (λ (n : ℕ). (z.0, n)) o)) n.1 ∙ ap (λ (k : ℕ). Ok (z.0, k)) counts))) in
+      ap (λ (k : ℕ). or_no_decl line (if is_first at.siblings k None d.name && not (list_any (bytes_eq d.name) x.names) then counted (field_shape again k d) (element_count d.size) else None)) (sym longs)
+      ∙ (ap (λ (b : Bool). or_no_decl line (if b then counted (field_shape again m d) (element_count d.size) else None)) new
+      ∙ (ap (λ (o : Option Shape). or_no_decl line (counted o (element_count d.size))) z.1
+      ∙ (ap (λ (o : Option ℕ). or_no_decl line (option_map (λ (n : ℕ). (z.0, n)) o)) n.1 ∙ ap (λ (k : ℕ). Ok (z.0, k)) counts))) in
       let put : placed (with_members x ms) line z.0 a.0.1 extent ≡ Ok (with_members next (ms ++ other ∷ [])) =
-          ap (λ (q : Result ℕ TypeRefusal). and_ok q (λ end. Ok (record { members = ms ++ other ∷ []; unions = x.unions; names = x.names; end = end; align = max x.align extent.align; fields = x.fields + 1 }))) p.1 in
+      ap (λ (q : Result ℕ TypeRefusal). and_ok q (λ end. Ok (record { members = ms ++ other ∷ []; unions = x.unions; names = x.names; end = end; align = max x.align extent.align; fields = x.fields + 1 }))) p.1 in
       let whole : with_plain again (with_members x ms) line d ≡ Ok (with_members next (ms ++ other ∷ [])) =
-          ap (λ (q : Result (Shape × ℕ) TypeRefusal). and_ok q (λ y. placed (with_members x ms) line y.0 y.1 (type_extent at.types now d.type_name))) found
-          ∙ (ap (λ (e : Extent). placed (with_members x ms) line z.0 a.0.1 e) (sym same_extent) ∙ put) in
+      ap (λ (q : Result (Shape × ℕ) TypeRefusal). and_ok q (λ y. placed (with_members x ms) line y.0 y.1 (type_extent at.types now d.type_name))) found
+      ∙ (ap (λ (e : Extent). placed (with_members x ms) line z.0 a.0.1 e) (sym same_extent) ∙ put) in
       let alike_next : kinds next.members ≡ kinds (ms ++ other ∷ []) = kinds_push x.members ms member other alike (ap kind (sym shapes) ∙ z.2) in
       subst (λ (o : Laying). LaidAgain o (with_plain again (with_members x ms) line d)) is (ms ++ other ∷ [], whole, alike_next)
 
@@ -186,12 +186,12 @@ module _ (at : Surroundings) (now : List Extent) (agree : AgreeBelow at.number a
       let other : Member = record { offset = offset; count = 1; shape = z.0; arm = Some (part, value) } in
       let y : Arms = with_arm_members x ms in
       let tagged : arm_tag again unions start y a.tag value ≡ Some k.0 =
-          ap (λ (f : ℕ → Bool). and_then (tag_number at start a.tag) (λ k. if is_own_tag unions x.tag k && (f k && not (list_any (int_eq value) x.values)) then Some k else None))
-              (sym (fun_ext (λ k. tag_holds x.members k value) (λ k. tag_holds ms k value) (λ k. tag_again x.members ms k value alike))) ∙ k.1 in
+      ap (λ (f : ℕ → Bool). and_then (tag_number at start a.tag) (λ k. if is_own_tag unions x.tag k && (f k && not (list_any (int_eq value) x.values)) then Some k else None))
+      (sym (fun_ext (λ k. tag_holds x.members k value) (λ k. tag_holds ms k value) (λ k. tag_again x.members ms k value alike))) ∙ k.1 in
       let whole : with_arm again unions part start offset y a ≡ Some (with_arm_of part offset y value k.0 z.0) =
-          ap (λ (n : ℕ). if is_first at.siblings n (Some part) a.name then and_then (arm_tag again unions start y a.tag value) (with_tagged_arm again part offset y a) else None) (sym longs)
-          ∙ (ap (λ (b : Bool). if b then and_then (arm_tag again unions start y a.tag value) (with_tagged_arm again part offset y a) else None) first
-          ∙ (ap (λ (o : Option ℕ). and_then o (with_tagged_arm again part offset y a)) tagged ∙ ap (option_map (with_arm_of part offset y value k.0)) z.1)) in
+      ap (λ (n : ℕ). if is_first at.siblings n (Some part) a.name then and_then (arm_tag again unions start y a.tag value) (with_tagged_arm again part offset y a) else None) (sym longs)
+      ∙ (ap (λ (b : Bool). if b then and_then (arm_tag again unions start y a.tag value) (with_tagged_arm again part offset y a) else None) first
+      ∙ (ap (λ (o : Option ℕ). and_then o (with_tagged_arm again part offset y a)) tagged ∙ ap (option_map (with_arm_of part offset y value k.0)) z.1)) in
       let alike_next : kinds (x.members ++ member ∷ []) ≡ kinds (ms ++ other ∷ []) = kinds_push x.members ms member other alike z.2 in
       subst (λ (o : Arms). (ns : List Member) × (with_arm again unions part start offset y a ≡ Some (with_arm_members o ns)) × (kinds o.members ≡ kinds ns)) s.2 (ms ++ other ∷ [], whole, alike_next)
     where
@@ -207,10 +207,11 @@ module _ (at : Surroundings) (now : List Extent) (agree : AgreeBelow at.number a
       let n = ok_then (with_next_arm at unions part start offset x a) (λ next. with_arms_in_turn at unions part start offset next more) out h in
       let w = ok_declared a.line (with_arm at unions part start offset x a) n.0 n.1 in
       let one = arm_again unions part start offset x n.0 ms a alike r.0 w in
-      let rest = arms_again unions part start offset n.0 out one.0 more one.2 r.1 n.2 in
-      (rest.0,
+      let rest = arms_again unions part start offset n.0 out one.0 more one.2 r.1 n.2 in (
+        rest.0,
         ap (λ (o : Option Arms). and_ok (or_no_decl a.line o) (λ next. with_arms_in_turn again unions part start offset next more)) one.1 ∙ rest.1,
-        rest.2)
+        rest.2,
+      )
 
   -- ---- a union
   union_again : (x out : Laying) (ms : List Member) (line : ℕ) (arms : List Arm) (name : List ℕ) → kinds x.members ≡ kinds ms → AreReadableArms arms → with_union at x line arms name ≡ Ok out
@@ -232,11 +233,11 @@ module _ (at : Surroundings) (now : List Extent) (agree : AgreeBelow at.number a
       let next : Laying = with_union_of x name offset extent a.0 q.0 in
       let is : next ≡ out = cc in
       let whole : with_union again y line arms name ≡ Ok (with_members next read.0) =
-          ap (λ (k : ℕ). if not (list_any (bytes_eq name) x.names || is_before k (member_number at.siblings.names None name)) then with_union_at again y line arms name extent else Err (refusal.NoDecl line)) (sym longs)
-          ∙ (ap (λ (b : Bool). if b then with_union_at again y line arms name extent else Err (refusal.NoDecl line)) new
-          ∙ (ap (λ (w : Result ℕ TypeRefusal). and_ok w (with_union_arms again y arms name offset extent)) a.1
-          ∙ (ap (λ (k : ℕ). and_ok (with_arms_in_turn again x.unions part k offset (record { members = ms; tag = None; values = [] }) arms) (λ read. Ok (with_union_of y name offset extent a.0 read))) (sym longs)
-          ∙ ap (λ (w : Result Arms TypeRefusal). and_ok w (λ read. Ok (with_union_of y name offset extent a.0 read))) read.1))) in
+      ap (λ (k : ℕ). if not (list_any (bytes_eq name) x.names || is_before k (member_number at.siblings.names None name)) then with_union_at again y line arms name extent else Err (refusal.NoDecl line)) (sym longs)
+      ∙ (ap (λ (b : Bool). if b then with_union_at again y line arms name extent else Err (refusal.NoDecl line)) new
+      ∙ (ap (λ (w : Result ℕ TypeRefusal). and_ok w (with_union_arms again y arms name offset extent)) a.1
+      ∙ (ap (λ (k : ℕ). and_ok (with_arms_in_turn again x.unions part k offset (record { members = ms; tag = None; values = [] }) arms) (λ read. Ok (with_union_of y name offset extent a.0 read))) (sym longs)
+      ∙ ap (λ (w : Result Arms TypeRefusal). and_ok w (λ read. Ok (with_union_of y name offset extent a.0 read))) read.1))) in
       subst (λ (o : Laying). LaidAgain o (with_union again y line arms name)) is (read.0, whole, read.2)
     where
       new_is : {A : Type 0} (b : Bool) (r : Result A TypeRefusal) (e : TypeRefusal) (o : A) → (if b then r else Err e) ≡ Ok o → b ≡ true
@@ -269,10 +270,11 @@ struct_again types before now number s laid agree sizes r h =
     let head = head_none (head_of_struct types number s) (laid_with types before number s.fields siblings) laid h in
     let u = unless_ok (head_of_struct types number s) (laid_with types before number s.fields siblings) laid h in
     let n = ok_then (with_fields_in_turn at empty_struct s.fields) (λ laying. Ok (laid_out types s.fields siblings laying)) laid u in
-    let all = fields_again at now agree sizes empty_struct n.0 [] s.fields refl r n.1 in
-    (laid_out types s.fields siblings (with_members n.0 all.0),
+    let all = fields_again at now agree sizes empty_struct n.0 [] s.fields refl r n.1 in (
+      laid_out types s.fields siblings (with_members n.0 all.0),
       ap (λ (o : Option TypeRefusal). unless o (laid_with types now number s.fields siblings)) head
-      ∙ ap (λ (q : Result Laying TypeRefusal). and_ok q (λ laying. Ok (laid_out types s.fields siblings laying))) all.1)
+          ∙ ap (λ (q : Result Laying TypeRefusal). and_ok q (λ laying. Ok (laid_out types s.fields siblings laying))) all.1,
+    )
   where
     head_none : {A : Type 0} (o : Option TypeRefusal) (r : Result A TypeRefusal) (a : A) → unless o r ≡ Ok a → o ≡ None
     head_none None r a h = refl

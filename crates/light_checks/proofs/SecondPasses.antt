@@ -72,7 +72,7 @@ module _ (types : Types) (ends : List ℕ) (out : Declared) (sizes : (key : Elem
       let laid : struct_laid types out.extents (length structs.shapes) s ≡ Ok again.0 = subst (λ (n : ℕ). struct_laid types out.extents n s ≡ Ok again.0) same again.1 in
       let next : Structs = with_laid structs again.0 in
       let longs : length a.0.extents ≡ length next.shapes =
-          ap (λ (l : List Extent). length l) first ∙ (length_push d.extents one.laid.extent ∙ (ap (λ (n : ℕ). n + 1) same ∙ sym (length_push structs.shapes again.0.shape))) in
+      ap (λ (l : List Extent). length l) first ∙ (length_push d.extents one.laid.extent ∙ (ap (λ (n : ℕ). n + 1) same ∙ sym (length_push structs.shapes again.0.shape))) in
       let more = items_again a.0 next xs longs r.1 a.2 in
       (more.0, ap (λ (q : Result Laid TypeRefusal). and_ok (and_ok q (λ laid. Ok (with_laid structs laid))) (λ next. structs_of types out.extents next xs)) laid ∙ more.1)
   items_again d structs (item.Global g ∷ xs) same r h =

@@ -201,7 +201,8 @@ typed_again types before now plain siblings place t x sizes r h =
         let noted = star_readable t.stars _ star words e in
         let n = some_then (element_number types.elements key) (λ elem. pointer_to (key_extent before key).bytes plain siblings place elem key star) x h in
         let b = some_map (star_bounds (key_extent before key).bytes plain siblings place n.0 key star.annotation) (λ b. shape.Pointer n.0 b) x n.2 in
-        let c = star_again (key_extent before key).bytes (key_extent now key).bytes (sizes key) siblings plain place n.0 key star.annotation b.0 noted b.1 in
-        (shape.Pointer n.0 c.0,
+        let c = star_again (key_extent before key).bytes (key_extent now key).bytes (sizes key) siblings plain place n.0 key star.annotation b.0 noted b.1 in (
+          shape.Pointer n.0 c.0,
           ap (λ (o : Option ℕ). and_then o (λ elem. pointer_to (key_extent now key).bytes plain siblings place elem key star)) n.1 ∙ ap (option_map (λ b. shape.Pointer n.0 b)) c.1,
-          ap kind (sym b.2))
+          ap kind (sym b.2),
+        )

@@ -34,12 +34,7 @@ fn is_place(place: Option<usize>, i: usize) -> bool
 
 /// Whether the i-th parameter of a head stands: it is the first that has its name, and its shape is derived.
 #[tactic(auto, unfolding(deputy_rules::specs::Heads::head_parameter_stands))]
-fn head_parameter_stands(
-    params: &[Param],
-    shapes: &[Option<Shape>],
-    i: usize,
-    name: &Name,
-) -> bool
+fn head_parameter_stands(params: &[Param], shapes: &[Option<Shape>], i: usize, name: &Name) -> bool
     ensures { result ≡ spec.head_parameter_stands params.now shapes.now i name.now }
 {
     is_place(parameter_place(params, name), i) && is_declared(shapes, i)

@@ -27,3 +27,4 @@ pub mod Bodies
 pub mod Units
 pub mod ExpressionAlone
 mod Examples
+mod SeenExamples

@@ -1,14 +1,12 @@
 -- An expression that is checked by itself is refused only where no rule derives it.
-use Rattle.std.proofs.Common.{◌≡◌, ◌≢◌, ℕ, List, [], Option, Some, None, Err, sym, subst}
+use Rattle.std.proofs.Common.{◌≡◌, List, [], Option, None, Err, sym, subst}
 use Rattle.c_tree.specs.declared.expressions.Expr.{Expr}
 use Rattle.c_tree.specs.Short.{IsShortExpr}
-use Rattle.checked_tree.specs.declared.expressions.CheckedExpr.{CheckedExpr}
 use Rattle.checked_tree.specs.declared.shapes.Shape.{Shape}
-use Rattle.deputy_rules.specs.declared.asked.Asked.{Asked}
 use Rattle.deputy_rules.specs.Checking.{Fault, NoRule}
 use Rattle.deputy_rules.specs.Context.{Context}
 use Rattle.deputy_rules.specs.Expressions.{expression}
-use Rattle.deputy_rules.specs.Numbering.{Numbered, numbered}
+use Rattle.deputy_rules.specs.Numbering.{Numbered}
 use Rattle.deputy_rules.specs.Statements.{expression_alone, statement_context}
 use Rattle.light_checks.specs.Alone.{IsInFunction}
 use Rattle.light_checks.specs.Within.{AreShapes, IsContext}

@@ -1,5 +1,5 @@
 -- A struct that is laid out with the extents of those before it is laid out again with the extents of all.
-use Rattle.std.proofs.Common.{◌≡◌, ℕ, zero, suc, ◌+◌, ◌*◌, ◌≤◌, max, Bool, true, false, not, ◌&&◌, ◌||◌, List, [], ◌∷◌, ◌++◌, map, length, Option, Some, None, Result, Ok, Err, option_map, unwrap_or, ℤ, slice_get, bytes_eq, if◌then◌else◌, refl, sym, ap, ◌∙◌, subst, arith}
+use Rattle.std.proofs.Common.{◌≡◌, ℕ, ◌+◌, ◌*◌, ◌≤◌, max, Bool, true, false, not, ◌&&◌, ◌||◌, List, [], ◌∷◌, ◌++◌, map, length, Option, Some, None, Result, Ok, Err, option_map, unwrap_or, ℤ, slice_get, bytes_eq, if◌then◌else◌, refl, sym, ap, ◌∙◌, subst}
 use Rattle.std.specs.List.{list_any}
 use Rattle.std.specs.Ordering.{int_eq}
 use Rattle.std.proofs.lemmas.Option.{slice_get-map}
@@ -9,7 +9,6 @@ use Rattle.c_tree.specs.declared.items.Field.{Field}
 use Rattle.c_tree.specs.declared.items.Field.TheVariants as field
 use Rattle.c_tree.specs.declared.items.StructItem.{StructItem}
 use Rattle.c_tree.specs.Spelling.{type_words}
-use Rattle.checked_tree.specs.declared.shapes.Bounds.TheVariants as bounds
 use Rattle.checked_tree.specs.declared.shapes.Member.{Member}
 use Rattle.checked_tree.specs.declared.shapes.Shape.{Shape}
 use Rattle.checked_tree.specs.declared.shapes.Shape.TheVariants as shape
@@ -31,11 +30,10 @@ use Rattle.deputy_types.specs.Siblings.{no_siblings, member_number}
 use Rattle.deputy_types.specs.StructLaws.{AgreeBelow}
 use Rattle.deputy_types.specs.StructLayout.{Surroundings, and_ok, or_no_decl, is_first, is_before, is_new_field, field_shape, field_declared, is_complete, if_complete, siblings_of, counted, element_count, within_limits, placed, with_plain, union_extent, const_value, is_own_tag, shape_holds, tag_holds, tag_number, arm_tag, if_number, arm_shape, with_arm_of, with_tagged_arm, with_arm, with_next_arm, with_arms_in_turn, is_new_union, with_union_of, with_union_arms, with_union_at, with_union, with_any_field, empty_struct, with_fields_in_turn, laid_out, head_of_struct, struct_siblings, unless, laid_with, struct_laid}
 use Rattle.deputy_types.proofs.Inversions.{some_then, some_map, if_some, ok_then, ok_declared, if_ok, unless_ok}
-use Rattle.layout_laws.proofs.SameExtent.{Declares, declares, later}
+use Rattle.layout_laws.proofs.SameExtent.{declares, later}
 use Rattle.light_checks.specs.Words.{IsReadable}
 use Rattle.light_checks.proofs.DeclaredSlots.{map_length}
 use Rattle.light_checks.proofs.DeclaredStructs.{AreReadableArms, IsReadableField, AreReadableFields, if_true}
-use Rattle.light_checks.proofs.Ensuring.{given}
 use Rattle.light_checks.proofs.SecondShapes.{kind, ShapeAgain, typed_again}
 
 -- members but for the bounds of their shapes

@@ -3,9 +3,6 @@ use Rattle.std.proofs.Common.{◌≡◌, ℕ, ◌+◌, ◌≤◌, List, [], ◌�
 use Rattle.std.proofs.lemmas.List.{append-nil, length_push}
 use Rattle.c_tree.specs.declared.items.Item.{Item}
 use Rattle.c_tree.specs.declared.items.Item.TheVariants as item
-use Rattle.c_tree.specs.declared.items.Unit.{Unit as TextUnit}
-use Rattle.c_tree.specs.ShortUnit.{IsShortUnit}
-use Rattle.checked_tree.specs.declared.shapes.StructShape.{StructShape}
 use Rattle.deputy_types.specs.declared.element.Element.{Element}
 use Rattle.deputy_types.specs.declared.extent.Extent.{Extent}
 use Rattle.deputy_types.specs.declared.laying.Laid.{Laid}
@@ -15,13 +12,13 @@ use Rattle.deputy_types.specs.declared.unit_items.Declared.{Declared}
 use Rattle.deputy_types.specs.declared.unit_layout.Structs.{Structs}
 use Rattle.deputy_types.specs.Extents.{key_extent}
 use Rattle.deputy_types.specs.StructLayout.{and_ok, struct_laid}
-use Rattle.deputy_types.specs.UnitLayout.{nothing_declared, strings_behind, with_global_shape, with_taken, with_item, with_items, with_laid, no_structs, with_next_struct, structs_of}
+use Rattle.deputy_types.specs.UnitLayout.{nothing_declared, strings_behind, with_global_shape, with_taken, with_item, with_items, with_laid, no_structs, structs_of}
 use Rattle.deputy_types.proofs.Inversions.{ok_then}
 use Rattle.deputy_types.proofs.TypeExtents.{key_is_extent}
 use Rattle.layout_laws.proofs.Declarations.{adds_struct, adds_global, adds_body}
 use Rattle.layout_laws.proofs.Passes.{agree}
 use Rattle.light_checks.specs.SecondPass.{StructsAreLaidOutAgain}
-use Rattle.light_checks.proofs.DeclaredUnits.{IsFine, nothing_fine, AreReadableItems, items_fine}
+use Rattle.light_checks.proofs.DeclaredUnits.{nothing_fine, AreReadableItems, items_fine}
 use Rattle.light_checks.proofs.SecondLayouts.{struct_again}
 use Rattle.light_checks.proofs.ShortUnits.{unit_readable}
 

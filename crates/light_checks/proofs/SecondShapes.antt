@@ -1,8 +1,7 @@
 -- A type that a short declaration gives with some sizes of structs it gives with all others, bounds aside: no number of a short annotation comes near its limit.
-use Rattle.std.proofs.Common.{◌≡◌, ℕ, zero, suc, ◌+◌, ◌*◌, ◌≤◌, ◌<◌, ◌^◌, IsTrue, Bool, true, false, cond, List, [], ◌∷◌, ◌++◌, length, Option, Some, None, option_map, ℤ, pos, negsuc, ◌+ℤ◌, unsigned_abs, slice_get, if◌then◌else◌, All, refl, sym, ap, ◌∙◌, subst, arith}
+use Rattle.std.proofs.Common.{◌≡◌, ℕ, zero, suc, ◌+◌, ◌*◌, ◌≤◌, ◌<◌, ◌^◌, Bool, true, false, cond, List, [], ◌∷◌, ◌++◌, length, Option, Some, None, option_map, ℤ, pos, negsuc, ◌+ℤ◌, unsigned_abs, if◌then◌else◌, refl, sym, ap, ◌∙◌, arith}
 use Rattle.std.proofs.lemmas.Int.{ints, unsigned_abs-mul}
 use Rattle.std.proofs.lemmas.Nat.{mul-le}
-use Rattle.std.proofs.lemmas.List.{length-append}
 use Rattle.std.proofs.lemmas.List.Elements.{All-head}
 use Rattle.dep_expr.proofs.Weights.{abs-add}
 use Rattle.c_tree.specs.declared.keywords.Keyword.TheVariants as keyword
@@ -28,7 +27,7 @@ use Rattle.deputy_types.specs.declared.extent.Extent.{Extent}
 use Rattle.deputy_types.specs.declared.sibling.Unannotated.{Unannotated}
 use Rattle.deputy_types.specs.declared.siblings.Siblings.{Siblings}
 use Rattle.deputy_types.specs.declared.types.Types.{Types}
-use Rattle.deputy_types.specs.Declarations.{own, in_bytes, is_small, if_small, with_bytes, with_number, with_term, integer_number, pointer_number, edge_named, edge_with, edge_term, edge_terms, edge_offset, bound_end, up_to, both_ends, default_bounds, annotated_bounds, star_bounds, plain_shape, pointer_to, pointer_shape, shape_behind, typed_shape}
+use Rattle.deputy_types.specs.Declarations.{own, in_bytes, is_small, with_bytes, with_number, with_term, integer_number, pointer_number, edge_named, edge_with, edge_term, edge_terms, edge_offset, bound_end, up_to, both_ends, default_bounds, annotated_bounds, star_bounds, pointer_to, pointer_shape, shape_behind, typed_shape}
 use Rattle.deputy_types.specs.Extents.{key_extent}
 use Rattle.deputy_types.specs.Options.{and_then}
 use Rattle.deputy_types.specs.Types.{signed_number, element_number, pointed_key, last_star}

@@ -3,16 +3,16 @@ ghost use Rattle.std.specs.Prelude.{◌≡◌, ◌<◌, ◌^◌};
 ghost use Rattle.check_numbering.specs.Building.{numbers_of};
 ghost use Rattle.check_numbering.specs.Outcome.{Checks};
 ghost use Rattle.check_numbering.specs.Placed.{placed};
-ghost use Rattle.deputy_types.specs.Deriving.{Derives};
-ghost use Rattle.deputy_types.specs.Expressions as spec;
-ghost use Rattle.deputy_types.specs.Functions.{no_checks};
-ghost use Rattle.deputy_types.specs.Statements.{expression_alone};
+ghost use Rattle.deputy_rules.specs.Deriving.{Derives};
+ghost use Rattle.deputy_rules.specs.Expressions as spec;
+ghost use Rattle.deputy_rules.specs.Functions.{no_checks};
+ghost use Rattle.deputy_rules.specs.Statements.{expression_alone};
 
 use crate::refusal::{RuleRefusal, at_line};
 use crate::{Atoms, number_checks};
 use c_tree::Expr;
 use checked_tree::{Check, CheckedExpr};
-use deputy_types::{Asked, Refusal};
+use deputy_rules::{Asked, DerivingRefusal};
 use rules_expr::{Context, expression};
 use sqlite_items::{Boxed, Items};
 use std::alloc::Global;
@@ -43,7 +43,7 @@ fn expression_at(
     first: usize,
     e: &Expr,
     own: &mut Items<Asked>,
-) -> Result<Boxed<CheckedExpr>, Refusal>
+) -> Result<Boxed<CheckedExpr>, DerivingRefusal>
     requires { first < 2 ^ 63 }
     ensures { Derives (spec.expression (placed ctx.now ctx.now.line first) e.now own.old) result own.new }
 {

@@ -1,18 +1,23 @@
 //! What a check tests, over the numbers of atoms.
-ghost use Rattle.deputy_types.specs.Numbering as spec;
-ghost use Rattle.deputy_types.specs.Numbering.{Leaves};
+ghost use Rattle.deputy_rules.specs.Numbering as spec;
+ghost use Rattle.deputy_rules.specs.Numbering.{Leaves};
 ghost use Rattle.std.specs.Prelude.{option_copied};
 
 use crate::Atoms;
 use crate::forming::{difference, single, whole};
 use checked_tree::{Cond, Part, Sum};
 use dep_expr::Ineq;
-use deputy_types::{AskedCond, Refusal};
+use deputy_rules::{AskedCond, DerivingRefusal};
 use std::alloc::Global;
 
 /// The left sum is at most the right one.
-#[tactic(auto, unfolding(deputy_types::specs::Numbering::at_most))]
-fn at_most(alloc: Global, atoms: &mut Atoms, left: &Sum, right: &Sum) -> Result<Cond, Refusal>
+#[tactic(auto, unfolding(deputy_rules::specs::Numbering::at_most))]
+fn at_most(
+    alloc: Global,
+    atoms: &mut Atoms,
+    left: &Sum,
+    right: &Sum,
+) -> Result<Cond, DerivingRefusal>
     ensures { Leaves (spec.at_most left.now right.now atoms.old) result atoms.new }
 {
     let left = difference(alloc, atoms, left, right)?;
@@ -20,14 +25,14 @@ fn at_most(alloc: Global, atoms: &mut Atoms, left: &Sum, right: &Sum) -> Result<
 }
 
 /// The left sum is at most the right one, or the guard is 0.
-#[tactic(auto, unfolding(deputy_types::specs::Numbering::guarded))]
+#[tactic(auto, unfolding(deputy_rules::specs::Numbering::guarded))]
 fn guarded(
     alloc: Global,
     atoms: &mut Atoms,
     left: &Sum,
     right: &Sum,
     guard: &Sum,
-) -> Result<Cond, Refusal>
+) -> Result<Cond, DerivingRefusal>
     ensures { Leaves (spec.guarded left.now right.now guard.now atoms.old) result atoms.new }
 {
     let left = difference(alloc, atoms, left, right)?;
@@ -39,7 +44,7 @@ fn guarded(
 }
 
 /// The value lies a multiple of the size past the low bound, or the guard is 0.
-#[tactic(auto, unfolding(deputy_types::specs::Numbering::aligned))]
+#[tactic(auto, unfolding(deputy_rules::specs::Numbering::aligned))]
 fn aligned(
     alloc: Global,
     atoms: &mut Atoms,
@@ -47,7 +52,7 @@ fn aligned(
     low: &Sum,
     size: u32,
     guard: &Sum,
-) -> Result<Cond, Refusal>
+) -> Result<Cond, DerivingRefusal>
     ensures { Leaves (spec.aligned value.now low.now size guard.now atoms.old) result atoms.new }
 {
     let gap = difference(alloc, atoms, value, low)?;
@@ -56,8 +61,13 @@ fn aligned(
 }
 
 /// The byte at the address is not 0, or the new byte is 0 where there is one.
-#[tactic(auto, unfolding(deputy_types::specs::Numbering::term))]
-fn term(alloc: Global, atoms: &mut Atoms, at: &Sum, new: Option<&Part>) -> Result<Cond, Refusal>
+#[tactic(auto, unfolding(deputy_rules::specs::Numbering::term))]
+fn term(
+    alloc: Global,
+    atoms: &mut Atoms,
+    at: &Sum,
+    new: Option<&Part>,
+) -> Result<Cond, DerivingRefusal>
     ensures { Leaves (spec.term at.now (option_copied new.entry) atoms.old) result atoms.new }
 {
     let at = whole(alloc, atoms, at)?;
@@ -71,7 +81,7 @@ fn term(alloc: Global, atoms: &mut Atoms, at: &Sum, new: Option<&Part>) -> Resul
 }
 
 /// The tag keeps its value, or the `size` bytes at the address are all 0. The new value is numbered first.
-#[tactic(auto, unfolding(deputy_types::specs::Numbering::kept))]
+#[tactic(auto, unfolding(deputy_rules::specs::Numbering::kept))]
 fn kept(
     alloc: Global,
     atoms: &mut Atoms,
@@ -79,7 +89,7 @@ fn kept(
     new: &Part,
     at: &Sum,
     size: u32,
-) -> Result<Cond, Refusal>
+) -> Result<Cond, DerivingRefusal>
     ensures { Leaves (spec.kept old.now new.now at.now size atoms.old) result atoms.new }
 {
     let new = single(alloc, atoms, new)?;
@@ -89,8 +99,8 @@ fn kept(
 }
 
 /// The number is not 0.
-#[tactic(auto, unfolding(deputy_types::specs::Numbering::non_zero))]
-fn non_zero(alloc: Global, atoms: &mut Atoms, part: &Part) -> Result<Cond, Refusal>
+#[tactic(auto, unfolding(deputy_rules::specs::Numbering::non_zero))]
+fn non_zero(alloc: Global, atoms: &mut Atoms, part: &Part) -> Result<Cond, DerivingRefusal>
     ensures { Leaves (spec.non_zero part.now atoms.old) result atoms.new }
 {
     let number = single(alloc, atoms, part)?;
@@ -98,8 +108,8 @@ fn non_zero(alloc: Global, atoms: &mut Atoms, part: &Part) -> Result<Cond, Refus
 }
 
 /// The number is this one.
-#[tactic(auto, unfolding(deputy_types::specs::Numbering::equal))]
-fn equal(alloc: Global, atoms: &mut Atoms, part: &Part, z: i64) -> Result<Cond, Refusal>
+#[tactic(auto, unfolding(deputy_rules::specs::Numbering::equal))]
+fn equal(alloc: Global, atoms: &mut Atoms, part: &Part, z: i64) -> Result<Cond, DerivingRefusal>
     ensures { Leaves (spec.equal part.now z atoms.old) result atoms.new }
 {
     let number = single(alloc, atoms, part)?;
@@ -107,12 +117,12 @@ fn equal(alloc: Global, atoms: &mut Atoms, part: &Part, z: i64) -> Result<Cond, 
 }
 
 /// What a check tests, over the numbers of atoms. `NoRule` where one of its forms is not light.
-#[tactic(auto, unfolding(deputy_types::specs::Numbering::conditioned))]
+#[tactic(auto, unfolding(deputy_rules::specs::Numbering::conditioned))]
 pub(crate) fn condition(
     alloc: Global,
     atoms: &mut Atoms,
     asked: &AskedCond,
-) -> Result<Cond, Refusal>
+) -> Result<Cond, DerivingRefusal>
     ensures { Leaves (spec.conditioned asked.now atoms.old) result atoms.new }
 {
     match asked {

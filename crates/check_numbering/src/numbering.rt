@@ -1,22 +1,22 @@
 //! `number_checks`: the checks that a statement asks for, behind those of its function so far.
-ghost use Rattle.deputy_types.specs.Numbering as spec;
-ghost use Rattle.deputy_types.specs.Numbering.{Numbers};
+ghost use Rattle.deputy_rules.specs.Numbering as spec;
+ghost use Rattle.deputy_rules.specs.Numbering.{Numbers};
 
 use crate::Atoms;
 use crate::conditions::condition;
 use checked_tree::Check;
-use deputy_types::{Asked, Refusal};
+use deputy_rules::{Asked, DerivingRefusal};
 use sqlite_items::Items;
 use std::alloc::Global;
 
 /// One check more.
-#[tactic(auto, unfolding(deputy_types::specs::Numbering::with_check))]
+#[tactic(auto, unfolding(deputy_rules::specs::Numbering::with_check))]
 fn with_check(
     alloc: Global,
     atoms: &mut Atoms,
     checks: &mut Items<Check>,
     asked: &Asked,
-) -> Result<(), Refusal>
+) -> Result<(), DerivingRefusal>
     ensures { Numbers (spec.with_check (record { atoms = atoms.old; checks = checks.old }) asked.now) result (record { atoms = atoms.new; checks = checks.new }) }
 {
     let cond = condition(alloc, atoms, &asked.cond)?;
@@ -39,7 +39,7 @@ pub fn number_checks(
     atoms: &mut Atoms,
     checks: &mut Items<Check>,
     asked: &[Asked],
-) -> Result<(), Refusal>
+) -> Result<(), DerivingRefusal>
     ensures { Numbers (spec.numbered asked.now (record { atoms = atoms.old; checks = checks.old })) result (record { atoms = atoms.new; checks = checks.new }) }
 {
     for one in asked {

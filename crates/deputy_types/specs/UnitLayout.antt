@@ -3,6 +3,7 @@ use Rattle.std.specs.Prelude.{◌≡◌, ℕ, ◌≤◌, ◌+◌, ◌-◌, ◌*�
 use Rattle.std.specs.List.{list_any}
 use Rattle.std.specs.Ordering.{int_eq}
 use Rattle.c_tree.specs.declared.items.Const.{Const}
+use Rattle.c_tree.specs.declared.items.Function.{Function}
 use Rattle.c_tree.specs.declared.items.GlobalItem.{GlobalItem}
 use Rattle.c_tree.specs.declared.items.Item.{Item}
 use Rattle.c_tree.specs.declared.items.Item.TheVariants as item
@@ -28,7 +29,7 @@ use Rattle.deputy_types.specs.Declarations.{up_to}
 use Rattle.deputy_types.specs.Extents.{key_extent, round_up_to, AreExtents}
 use Rattle.deputy_types.specs.declared.found.Found.{Found}
 use Rattle.deputy_types.specs.Found.{first_found, found_items, struct_names, with_name}
-use Rattle.deputy_types.specs.KernelCalls.{kernel_named}
+use Rattle.checked_tree.specs.KernelTable.{kernel_named}
 use Rattle.deputy_types.specs.Options.{and_then}
 use Rattle.deputy_types.specs.StructLayout.{and_ok, or_no_decl, element_count, const_value, struct_laid}
 use Rattle.deputy_types.specs.Table.{Table, elem_size}
@@ -104,6 +105,14 @@ with_body d name line strings = record {
   bodies = d.bodies + 1;
   lines = d.lines ++ replicate (strings - length d.lines) line;
 }
+
+-- the functions with bodies, in text order
+abbrev pub functions_of : List Item → List Function
+functions_of [] = []
+functions_of (item.Struct s ∷ items) = functions_of items
+functions_of (item.Global g ∷ items) = functions_of items
+functions_of (item.Function f ∷ items) = f ∷ functions_of items
+functions_of (item.Prototype h ∷ items) = functions_of items
 
 -- with a function, behind which this many strings stand: the limits on bodies, and on globals and strings
 unfoldable pub with_function : Declared → List ℕ → ℕ → ℕ → Result Declared TypeRefusal

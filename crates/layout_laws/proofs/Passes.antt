@@ -15,8 +15,10 @@ use Rattle.deputy_types.specs.StructLaws.{AgreeBelow}
 use Rattle.deputy_types.specs.StructLayout.{struct_laid}
 use Rattle.deputy_types.specs.UnitLayout.{strings_behind, with_global_shape, with_taken, with_item, with_items, with_laid, with_next_struct, structs_of}
 use Rattle.deputy_types.proofs.Inversions.{ok_then}
-use Rattle.deputy_types.proofs.SameExtent.{same_extent}
-use Rattle.layout_laws.proofs.Outcomes.{Laid, Declared, Structs}
+use Rattle.layout_laws.proofs.SameExtent.{same_extent}
+use Rattle.deputy_types.specs.declared.laying.Laid.{Laid}
+use Rattle.deputy_types.specs.declared.unit_items.Declared.{Declared}
+use Rattle.deputy_types.specs.declared.unit_layout.Structs.{Structs}
 use Rattle.layout_laws.specs.StructTable.{struct_items}
 use Rattle.layout_laws.proofs.Declarations.{adds_struct, adds_global, adds_body}
 
@@ -59,7 +61,7 @@ global_keeps d next name g e = ap (λ (x : Declared). x.extents) (sym e)
 extent_front : (xs ys : List Extent) (s : ℕ) → s < length xs → struct_extent xs s ≡ struct_extent (xs ++ ys) s
 extent_front xs ys s l = unwrap_or-slice_get xs s no_extent ∙ (sym (get_or_append_left xs ys no_extent s l) ∙ sym (unwrap_or-slice_get (xs ++ ys) s no_extent))
 
-agree : (before now ys : List Extent) → now ≡ before ++ ys → AgreeBelow (length before) before now
+pub agree : (before now ys : List Extent) → now ≡ before ++ ys → AgreeBelow (length before) before now
 agree before now ys e = record { same = λ s l. extent_front before ys s l ∙ ap (λ (x : List Extent). struct_extent x s) (sym e) }
 
 -- one more struct, behind others

@@ -19,13 +19,13 @@ use Rattle.checked_tree.specs.declared.expressions.CheckedExpr.{CheckedExpr}
 use Rattle.checked_tree.specs.declared.statements.CheckedStmt.{CheckedStmt}
 use Rattle.checked_tree.specs.declared.statements.CheckedStmt.TheVariants as checked_form
 use Rattle.c_tree.specs.Short.{IsShortExpr}
-use Rattle.deputy_types.specs.declared.asked.Asked.{Asked}
-use Rattle.deputy_types.specs.declared.signature.Returned.{Returned}
-use Rattle.deputy_types.specs.Checking.{Fault, NoRule, Checking, with_outcome, afterwards, done, in_turn}
-use Rattle.deputy_types.specs.Context.{Context}
-use Rattle.deputy_types.specs.Functions.{text_of, context_of, no_checks, finished, check_statements}
-use Rattle.deputy_types.specs.Numbering.{Numbered, numbered}
-use Rattle.deputy_types.specs.Statements.{Home, numbered_at, with_numbers, simple, condition, single, if_level, while_level, body_level, statement_level, check_statement, check_body, act, controlling, statement_context}
+use Rattle.deputy_rules.specs.declared.asked.Asked.{Asked}
+use Rattle.deputy_rules.specs.declared.signature.Returned.{Returned}
+use Rattle.deputy_rules.specs.Checking.{Fault, NoRule, Checking, with_outcome, afterwards, done, in_turn}
+use Rattle.deputy_rules.specs.Context.{Context}
+use Rattle.deputy_rules.specs.Functions.{text_of, context_of, no_checks, finished, check_statements}
+use Rattle.deputy_rules.specs.Numbering.{Numbered, numbered}
+use Rattle.deputy_rules.specs.Statements.{Home, numbered_at, with_numbers, simple, condition, single, if_level, while_level, body_level, statement_level, check_statement, check_body, act, controlling, statement_context}
 use Rattle.deputy_types.specs.Table.{Table}
 use Rattle.light_checks.specs.ShortActions.{HasShortParts}
 use Rattle.light_checks.specs.ShortUnits.{IsFunctionOf, home_of}
@@ -38,7 +38,7 @@ numbers_fault : {A : Type 0} (line : ℕ) (a : A) (n : Option Numbered) (e : Fau
 numbers_fault line a None e h = cc
 numbers_fault line a (Some n) e h = absurd cc
 
-line_fault : {A : Type 0} (line : ℕ) (b : Numbered) (o : Option (A × List Asked)) (e : Fault) → numbered_at line b o ≡ Err e → e ≡ NoRule line
+pub line_fault : {A : Type 0} (line : ℕ) (b : Numbered) (o : Option (A × List Asked)) (e : Fault) → numbered_at line b o ≡ Err e → e ≡ NoRule line
 line_fault line b None e h = cc
 line_fault line b (Some r) e h = numbers_fault line r.0 (numbered r.1 b) e h
 

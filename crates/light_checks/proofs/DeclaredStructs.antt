@@ -2,7 +2,7 @@
 use Rattle.std.proofs.Common.{◌≡◌, ◌≢◌, ◌⊎◌, inl, inr, ℕ, zero, suc, ◌+◌, ◌*◌, ◌≤◌, ◌<◌, max, Bool, true, false, not, ◌&&◌, nat_lt, nat_le, is_some, List, [], ◌∷◌, ◌++◌, map, length, Option, Some, None, option_map, unwrap_or, Ok, Err, ℤ, position, bytes_eq, slice_get, if◌then◌else◌, All, refl, sym, ap, ◌∙◌, subst, append-nil, append_assoc, arith}
 use Rattle.std.specs.List.{list_any}
 use Rattle.std.specs.Option.{option_flatten}
-use Rattle.std.proofs.lemmas.Bool.{and_parts, eqb-true, ltb-false, leb-false, leb-true, false≢true}
+use Rattle.std.proofs.lemmas.Bool.{and_parts, ltb-false, leb-false, leb-true, false≢true}
 use Rattle.std.proofs.lemmas.List.{length-append}
 use Rattle.std.proofs.lemmas.List.Elements.{All-nil, All-push, All-map, All-weaker}
 use Rattle.c_tree.specs.declared.items.Arm.{Arm}
@@ -12,18 +12,14 @@ use Rattle.c_tree.specs.declared.items.Field.TheVariants as field
 use Rattle.c_tree.specs.declared.items.StructItem.{StructItem}
 use Rattle.c_tree.specs.declared.limits.LimitKind.TheVariants as limit
 use Rattle.c_tree.specs.declared.types.Number.{Number}
-use Rattle.c_tree.specs.declared.types.Star.{Star}
-use Rattle.c_tree.specs.declared.types.TypeName.{TypeName}
 use Rattle.c_tree.specs.Spelling.{type_words}
 use Rattle.checked_tree.specs.declared.shapes.Member.{Member}
-use Rattle.checked_tree.specs.declared.shapes.Scalar.TheVariants as scalar
 use Rattle.checked_tree.specs.declared.shapes.Shape.{Shape}
 use Rattle.checked_tree.specs.declared.shapes.Shape.TheVariants as shape
 use Rattle.checked_tree.specs.declared.shapes.UnionShape.{UnionShape}
 use Rattle.checked_tree.specs.declared.shapes.Bounds.TheVariants as bounds
 use Rattle.checked_tree.specs.declared.shapes.Edge.{Edge}
 use Rattle.deputy_types.specs.declared.element.Element.{Element}
-use Rattle.deputy_types.specs.declared.element.Element.TheVariants as element
 use Rattle.deputy_types.specs.declared.extent.Extent.{Extent}
 use Rattle.deputy_types.specs.declared.refusal.TypeRefusal.{TypeRefusal}
 use Rattle.deputy_types.specs.declared.refusal.TypeRefusal.TheVariants as refusal
@@ -33,14 +29,13 @@ use Rattle.deputy_types.specs.declared.sibling.Role.TheVariants as role
 use Rattle.deputy_types.specs.declared.sibling.Unannotated.TheVariants as unannotated
 use Rattle.deputy_types.specs.declared.siblings.Siblings.{Siblings}
 use Rattle.deputy_types.specs.declared.types.Types.{Types}
-use Rattle.deputy_types.specs.Changes.{shape_of}
+use Rattle.deputy_rules.specs.Changes.{shape_of}
 use Rattle.deputy_types.specs.Declarations.{typed_shape, declared_role}
-use Rattle.deputy_types.specs.Extents.{IsExtent, AreExtents, natural, no_extent, key_extent, stars_extent, type_extent, round_up_to, greater}
+use Rattle.deputy_types.specs.Extents.{IsExtent, AreExtents, key_extent, type_extent, round_up_to}
 use Rattle.deputy_types.specs.Options.{and_then}
 use Rattle.deputy_types.specs.Siblings.{is_member, member_number, role_of, is_new_member, with_member, with_sibling, no_siblings}
-use Rattle.deputy_types.specs.StructLayout.{Surroundings, or_no_decl, tags_of, with_field_sibling, with_arm_siblings, next_part, field_siblings, struct_siblings, is_number, is_first, is_new_field, field_shape, field_declared, is_complete, if_complete, siblings_of, counted, element_count, within_limits, placed, with_plain, arms_extent, const_value, arm_tag, if_number, arm_shape, with_arm_of, with_tagged_arm, with_arm, with_next_arm, with_arms_in_turn, is_new_union, with_union_of, with_union_arms, with_union_at, with_union, empty_struct, with_fields_in_turn, laid_out, head_of_struct, laid_with, struct_laid}
-use Rattle.deputy_types.specs.Types.{base_key}
-use Rattle.deputy_types.proofs.TypeExtents.{key_is_extent, no_extent_is, type_is_extent, arms_is_extent}
+use Rattle.deputy_types.specs.StructLayout.{Surroundings, or_no_decl, tags_of, with_field_sibling, with_arm_siblings, next_part, field_siblings, struct_siblings, is_first, is_new_field, field_shape, field_declared, is_complete, if_complete, siblings_of, counted, element_count, within_limits, placed, with_plain, union_extent, const_value, arm_tag, if_number, arm_shape, with_arm_of, with_tagged_arm, with_arm, with_next_arm, with_arms_in_turn, is_new_union, with_union_of, with_union_arms, with_union_at, with_union, empty_struct, with_fields_in_turn, laid_out, head_of_struct, laid_with, struct_laid}
+use Rattle.deputy_types.proofs.TypeExtents.{key_is_extent, type_is_extent, union_is_extent}
 use Rattle.deputy_types.proofs.Inversions.{some_then, some_map, if_some, ok_then, ok_declared, if_ok, unless_ok, within_is}
 use Rattle.light_checks.specs.Within.{is_integer, shape_at, IsShape, AreShapes}
 use Rattle.light_checks.specs.Words.{IsReadable}
@@ -49,7 +44,9 @@ use Rattle.light_checks.proofs.DeclaredSlots.{role_integer, not_before, joined, 
 use Rattle.light_checks.proofs.Ensuring.{some_same, given}
 use Rattle.layout_laws.proofs.Lists.{slice_front}
 use Rattle.layout_laws.proofs.MemberNumbers.{first_number}
-use Rattle.layout_laws.proofs.Outcomes.{Laying, Arms, Laid}
+use Rattle.deputy_types.specs.declared.laying.Laying.{Laying}
+use Rattle.deputy_types.specs.declared.laying.Arms.{Arms}
+use Rattle.deputy_types.specs.declared.laying.Laid.{Laid}
 
 -- ---- extents
 rounded_small : (align n : ℕ) → 1 ≤ align → align ≤ 4 → align ≢ 3 → n ≤ 65536 → round_up_to align n ≤ 65536
@@ -199,7 +196,7 @@ limits_hold line fields end out h =
     let b = two_limits (nat_le 64 fields) (nat_lt 65536 end) (refusal.Limit line limit.Fields) (refusal.Limit line limit.Size) end out h in
     (leb-false 64 fields b.0, ltb-false 65536 end b.1)
 
-if_true : {A : Type 0} (t : Bool) (x : Option A) (a : A) → (if t then x else None) ≡ Some a → t ≡ true
+pub if_true : {A : Type 0} (t : Bool) (x : Option A) (a : A) → (if t then x else None) ≡ Some a → t ≡ true
 if_true true x a h = refl
 if_true false x a h = absurd cc
 
@@ -353,8 +350,8 @@ module _ (at : Surroundings) (extents : AreExtents at.extents) where
       → Sound at.siblings (with_arm_siblings (length laying.unions) s arms) out × (length out.members ≡ length laying.members + length arms) × (length out.unions ≡ length laying.unions + 1)
   unfolding with_union with_union_at with_union_arms with_union_of
   union_sound s laying line arms name out sound more r few h =
-      let extent : Extent = arms_extent at.types at.extents no_extent arms in
-      let is : IsExtent extent = arms_is_extent at.types at.extents no_extent arms extents no_extent_is in
+      let extent : Extent = union_extent at.types arms in
+      let is : IsExtent extent = union_is_extent at.types arms in
       let offset : ℕ = round_up_to extent.align laying.end in
       let u = if_ok (is_new_union at laying name) (with_union_at at laying line arms name extent) (refusal.NoDecl line) out h in
       let a = ok_then (within_limits line laying.fields (offset + extent.bytes)) (with_union_arms at laying arms name offset extent) out u in

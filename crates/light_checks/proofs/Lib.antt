@@ -14,11 +14,17 @@ pub mod StatementRules
 pub mod Derivations
 pub mod DeclaredSides
 pub mod DeclaredSlots
+pub mod DeclaredHeads
 pub mod DeclaredStructs
 pub mod DeclaredUnits
+pub mod SecondShapes
+pub mod SecondLayouts
 pub mod FoundKeys
 pub mod ShortUnits
 pub mod Refusals
+pub mod SecondPasses
 pub mod Bodies
 pub mod Units
+pub mod ExpressionAlone
 mod Examples
+mod SeenExamples

@@ -1,7 +1,7 @@
 //! The derivation of an expression: one arm for each form, its parts first, left to right.
 ghost use Rattle.std.specs.Prelude.{◌≡◌};
-ghost use Rattle.deputy_types.specs.Deriving.{Derives, Gives};
-ghost use Rattle.deputy_types.specs.Expressions as spec;
+ghost use Rattle.deputy_rules.specs.Deriving.{Derives, Yields};
+ghost use Rattle.deputy_rules.specs.Expressions as spec;
 
 use crate::Context;
 use crate::binary::binary;
@@ -12,31 +12,35 @@ use crate::pointers::{indexed_by, string};
 use crate::values::{integer_of, pointer_of, value_of};
 use c_tree::{Expr, TypeName};
 use checked_tree::CheckedExpr;
-use deputy_types::{Asked, Derived, Refusal, Value};
+use deputy_rules::{Asked, Derived, DerivingRefusal, Value};
 use sd_base::Name;
 use sqlite_items::{Boxed, Items};
 use std::alloc::Global;
 
 /// `sizeof(T)`.
-#[tactic(auto, unfolding(deputy_types::specs::Expressions::size_of_type))]
-fn size_of_type(alloc: Global, ctx: &Context<'_>, name: &TypeName) -> Result<Derived, Refusal>
-    ensures { Gives (spec.size_of_type ctx.now name.now) result }
+#[tactic(auto, unfolding(deputy_rules::specs::Expressions::size_of_type))]
+fn size_of_type(
+    alloc: Global,
+    ctx: &Context<'_>,
+    name: &TypeName,
+) -> Result<Derived, DerivingRefusal>
+    ensures { Yields (spec.size_of_type ctx.now name.now) result }
 {
     match ctx.types.size(name) {
         Some(size) => Ok(size_constant(alloc, size)?),
-        None => Err(Refusal::NoRule),
+        None => Err(DerivingRefusal::NoRule),
     }
 }
 
 /// `e->f`, as `(*e).f`.
-#[tactic(auto, unfolding(deputy_types::specs::Deriving::bind, deputy_types::specs::Expressions::arrow))]
+#[tactic(auto, unfolding(deputy_rules::specs::Deriving::bind, deputy_rules::specs::Expressions::arrow))]
 fn arrow(
     alloc: Global,
     ctx: &Context<'_>,
     of: Derived,
     name: &Name,
     asked: &mut Items<Asked>,
-) -> Result<Derived, Refusal>
+) -> Result<Derived, DerivingRefusal>
     ensures { Derives (spec.arrow ctx.now of name.now asked.old) result asked.new }
 {
     let pointer = pointer_of(alloc, ctx, of)?;
@@ -45,14 +49,14 @@ fn arrow(
 }
 
 /// `e[i]`.
-#[tactic(auto, unfolding(deputy_types::specs::Deriving::bind, deputy_types::specs::Expressions::subscript))]
+#[tactic(auto, unfolding(deputy_rules::specs::Deriving::bind, deputy_rules::specs::Expressions::subscript))]
 fn subscript(
     alloc: Global,
     ctx: &Context<'_>,
     of: Derived,
     index: Derived,
     asked: &mut Items<Asked>,
-) -> Result<Derived, Refusal>
+) -> Result<Derived, DerivingRefusal>
     ensures { Derives (spec.subscript ctx.now of index asked.old) result asked.new }
 {
     let pointer = pointer_of(alloc, ctx, of)?;
@@ -61,13 +65,13 @@ fn subscript(
 }
 
 /// What an expression derives, and the checks that it asks for behind those so far.
-#[tactic(auto, unfolding(deputy_types::specs::Deriving::bind, deputy_types::specs::Expressions::derive))]
+#[tactic(auto, unfolding(deputy_rules::specs::Deriving::bind, deputy_rules::specs::Expressions::derive))]
 pub fn derive(
     alloc: Global,
     ctx: &Context<'_>,
     e: &Expr,
     asked: &mut Items<Asked>,
-) -> Result<Derived, Refusal>
+) -> Result<Derived, DerivingRefusal>
     ensures { Derives (spec.derive ctx.now e.now asked.old) result asked.new }
 {
     match e {
@@ -108,24 +112,24 @@ pub fn derive(
 }
 
 /// The checked form of a value; `(void *)0` has none until a pointer is wanted.
-fn form_of(value: Value) -> Result<Boxed<CheckedExpr>, Refusal>
-    ensures { Gives (spec.form_of value) result }
+fn form_of(value: Value) -> Result<Boxed<CheckedExpr>, DerivingRefusal>
+    ensures { Yields (spec.form_of value) result }
 {
     match value {
         Value::Int(found) => Ok(found.form),
         Value::Pointer(found) => Ok(found.form),
-        Value::Null => Err(Refusal::NoRule),
+        Value::Null => Err(DerivingRefusal::NoRule),
     }
 }
 
 /// An expression by itself: the checked form of its value.
-#[tactic(auto, unfolding(deputy_types::specs::Deriving::bind, deputy_types::specs::Expressions::expression))]
+#[tactic(auto, unfolding(deputy_rules::specs::Deriving::bind, deputy_rules::specs::Expressions::expression))]
 pub fn expression(
     alloc: Global,
     ctx: &Context<'_>,
     e: &Expr,
     asked: &mut Items<Asked>,
-) -> Result<Boxed<CheckedExpr>, Refusal>
+) -> Result<Boxed<CheckedExpr>, DerivingRefusal>
     ensures { Derives (spec.expression ctx.now e.now asked.old) result asked.new }
 {
     let derived = derive(alloc, ctx, e, asked)?;

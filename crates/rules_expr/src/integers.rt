@@ -1,7 +1,7 @@
 //! Integers: constants, the operators before one operand, and casts. The only refusal of a function that answers an `AllocError` is want of memory.
 ghost use Rattle.std.specs.Prelude.{◌≡◌, neg_ℤ, pos, IfOk};
-ghost use Rattle.deputy_types.specs.Deriving.{Derives, Gives};
-ghost use Rattle.deputy_types.specs.Operators as spec;
+ghost use Rattle.deputy_rules.specs.Deriving.{Derives, Yields};
+ghost use Rattle.deputy_rules.specs.Operators as spec;
 
 use crate::Context;
 use crate::forms::{number_form, unary_form};
@@ -10,7 +10,7 @@ use crate::pointers::address_of;
 use crate::values::{integer_of, pointer_of, value_of};
 use c_tree::{Base, Number, Star, Suffix, TypeName, Unary};
 use checked_tree::{CheckedExpr, Scalar, converted};
-use deputy_types::{Asked, Derived, Refusal, Value, Whole, Written};
+use deputy_rules::{Asked, Derived, DerivingRefusal, Value, Whole, Written};
 use sqlite_items::{Boxed, Items};
 use std::alloc::{AllocError, Global};
 
@@ -79,7 +79,7 @@ fn is_plain(suffix: Suffix) -> bool
 }
 
 /// A number.
-#[tactic(auto, unfolding(deputy_types::specs::Operators::number))]
+#[tactic(auto, unfolding(deputy_rules::specs::Operators::number))]
 pub fn number(alloc: Global, n: Number) -> Result<Derived, AllocError>
     ensures { IfOk result (λ d. d ≡ spec.number n) }
 {
@@ -92,7 +92,7 @@ pub fn number(alloc: Global, n: Number) -> Result<Derived, AllocError>
 }
 
 /// A character: an `int`.
-#[tactic(auto, unfolding(deputy_types::specs::Operators::character))]
+#[tactic(auto, unfolding(deputy_rules::specs::Operators::character))]
 pub fn character(alloc: Global, c: u8) -> Result<Derived, AllocError>
     ensures { IfOk result (λ d. d ≡ spec.character c) }
 {
@@ -101,7 +101,7 @@ pub fn character(alloc: Global, c: u8) -> Result<Derived, AllocError>
 }
 
 /// `sizeof(T)`: an `unsigned`.
-#[tactic(auto, unfolding(deputy_types::specs::Operators::size_constant))]
+#[tactic(auto, unfolding(deputy_rules::specs::Operators::size_constant))]
 pub fn size_constant(alloc: Global, size: u32) -> Result<Derived, AllocError>
     ensures { IfOk result (λ d. d ≡ spec.size_constant size) }
 {
@@ -149,7 +149,7 @@ fn negative_number(alloc: Global, scalar: Scalar, value: u32) -> Result<Derived,
 }
 
 /// `-e`, e an integer: the negative of a number is a constant.
-#[tactic(auto, unfolding(deputy_types::specs::Operators::negative))]
+#[tactic(auto, unfolding(deputy_rules::specs::Operators::negative))]
 fn negative(alloc: Global, of: Whole) -> Result<Derived, AllocError>
     ensures { IfOk result (λ d. d ≡ spec.negative of) }
 {
@@ -169,19 +169,19 @@ fn negation(alloc: Global, form: Boxed<CheckedExpr>) -> Result<Derived, AllocErr
 }
 
 /// `!` of a value.
-fn not_by(alloc: Global, value: Value) -> Result<Derived, Refusal>
-    ensures { Gives (spec.not_by value) result }
+fn not_by(alloc: Global, value: Value) -> Result<Derived, DerivingRefusal>
+    ensures { Yields (spec.not_by value) result }
 {
     match value {
         Value::Int(of) => Ok(negation(alloc, of.form)?),
         Value::Pointer(of) => Ok(negation(alloc, of.form)?),
-        Value::Null => Err(Refusal::NoRule),
+        Value::Null => Err(DerivingRefusal::NoRule),
     }
 }
 
 /// `-e`.
-fn minus(alloc: Global, ctx: &Context<'_>, of: Derived) -> Result<Derived, Refusal>
-    ensures { Gives (spec.minus ctx.now of) result }
+fn minus(alloc: Global, ctx: &Context<'_>, of: Derived) -> Result<Derived, DerivingRefusal>
+    ensures { Yields (spec.minus ctx.now of) result }
 {
     let of = integer_of(alloc, ctx, of)?;
     Ok(negative(alloc, of)?)
@@ -193,29 +193,29 @@ fn on_integer(
     ctx: &Context<'_>,
     op: checked_tree::Unary,
     of: Derived,
-) -> Result<Derived, Refusal>
-    ensures { Gives (spec.on_integer ctx.now op of) result }
+) -> Result<Derived, DerivingRefusal>
+    ensures { Yields (spec.on_integer ctx.now op of) result }
 {
     let of = integer_of(alloc, ctx, of)?;
     Ok(on_one(alloc, op, of)?)
 }
 
 /// `!e`.
-fn not_of(alloc: Global, ctx: &Context<'_>, of: Derived) -> Result<Derived, Refusal>
-    ensures { Gives (spec.not_of ctx.now of) result }
+fn not_of(alloc: Global, ctx: &Context<'_>, of: Derived) -> Result<Derived, DerivingRefusal>
+    ensures { Yields (spec.not_of ctx.now of) result }
 {
     let of = value_of(alloc, ctx, of)?;
     not_by(alloc, of)
 }
 
 /// `*e`.
-#[tactic(auto, unfolding(deputy_types::specs::Deriving::bind))]
+#[tactic(auto, unfolding(deputy_rules::specs::Deriving::bind))]
 fn dereferenced(
     alloc: Global,
     ctx: &Context<'_>,
     of: Derived,
     asked: &mut Items<Asked>,
-) -> Result<Derived, Refusal>
+) -> Result<Derived, DerivingRefusal>
     ensures { Derives (spec.dereferenced ctx.now of asked.old) result asked.new }
 {
     let pointer = pointer_of(alloc, ctx, of)?;
@@ -223,14 +223,14 @@ fn dereferenced(
 }
 
 /// The operators before an operand.
-#[tactic(auto, unfolding(deputy_types::specs::Operators::unary))]
+#[tactic(auto, unfolding(deputy_rules::specs::Operators::unary))]
 pub fn unary(
     alloc: Global,
     ctx: &Context<'_>,
     op: Unary,
     of: Derived,
     asked: &mut Items<Asked>,
-) -> Result<Derived, Refusal>
+) -> Result<Derived, DerivingRefusal>
     ensures { Derives (spec.unary ctx.now op of asked.old) result asked.new }
 {
     match op {
@@ -244,7 +244,7 @@ pub fn unary(
 }
 
 /// The integer type that a base names. None where it is a struct.
-#[tactic(auto, unfolding(deputy_types::specs::Operators::base_scalar, deputy_types::specs::Types::base_key))]
+#[tactic(auto, unfolding(deputy_rules::specs::Operators::base_scalar, deputy_types::specs::Types::base_key))]
 fn base_scalar(base: Base) -> Option<Scalar>
     ensures { result ≡ spec.base_scalar base }
 {
@@ -274,7 +274,7 @@ fn starless(stars: &[Star], scalar: Option<Scalar>) -> Option<Scalar>
 }
 
 /// The integer type that a type name names. None where it is a struct or a pointer.
-#[tactic(auto, unfolding(deputy_types::specs::Operators::integer_type))]
+#[tactic(auto, unfolding(deputy_rules::specs::Operators::integer_type))]
 fn integer_type(name: &TypeName) -> Option<Scalar>
     ensures { result ≡ spec.integer_type name.now }
 {
@@ -295,25 +295,25 @@ fn cast_by(
     ctx: &Context<'_>,
     scalar: Scalar,
     of: Derived,
-) -> Result<Derived, Refusal>
-    ensures { Gives (spec.cast_by ctx.now scalar of) result }
+) -> Result<Derived, DerivingRefusal>
+    ensures { Yields (spec.cast_by ctx.now scalar of) result }
 {
     let of = integer_of(alloc, ctx, of)?;
     Ok(cast_to(alloc, scalar, of)?)
 }
 
 /// `(T)e`.
-#[tactic(auto, unfolding(deputy_types::specs::Operators::cast))]
+#[tactic(auto, unfolding(deputy_rules::specs::Operators::cast))]
 pub fn cast(
     alloc: Global,
     ctx: &Context<'_>,
     name: &TypeName,
     of: Derived,
-) -> Result<Derived, Refusal>
-    ensures { Gives (spec.cast ctx.now name.now of) result }
+) -> Result<Derived, DerivingRefusal>
+    ensures { Yields (spec.cast ctx.now name.now of) result }
 {
     match integer_type(name) {
         Some(scalar) => cast_by(alloc, ctx, scalar, of),
-        None => Err(Refusal::NoRule),
+        None => Err(DerivingRefusal::NoRule),
     }
 }

@@ -2,14 +2,14 @@
 ghost use Rattle.std.specs.Prelude.{◌≡◌, [], ◌∷◌, pos, IfOk, option_copied};
 ghost use Rattle.sd_base.specs.declared.kinds.CheckKind.TheVariants as kind;
 ghost use Rattle.checked_tree.specs.declared.expressions.CheckedExpr.TheVariants as form;
-ghost use Rattle.deputy_types.specs.declared.asked.AskedCond.TheVariants as cond;
-ghost use Rattle.deputy_types.specs.declared.derived.Derived.TheVariants as derived;
-ghost use Rattle.deputy_types.specs.declared.derived.Source.TheVariants as source;
-ghost use Rattle.deputy_types.specs.Deriving as asking;
-ghost use Rattle.deputy_types.specs.Deriving.{Derives, Gives};
-ghost use Rattle.deputy_types.specs.Places as spec;
-ghost use Rattle.deputy_types.specs.Sums as sums;
-ghost use Rattle.deputy_types.specs.Values as values;
+ghost use Rattle.deputy_rules.specs.declared.asked.AskedCond.TheVariants as cond;
+ghost use Rattle.deputy_rules.specs.declared.derived.Derived.TheVariants as derived;
+ghost use Rattle.deputy_rules.specs.declared.derived.Source.TheVariants as source;
+ghost use Rattle.deputy_rules.specs.Deriving as asking;
+ghost use Rattle.deputy_rules.specs.Deriving.{Derives, Yields};
+ghost use Rattle.deputy_rules.specs.Places as spec;
+ghost use Rattle.deputy_rules.specs.Sums as sums;
+ghost use Rattle.deputy_rules.specs.Values as values;
 
 use crate::Context;
 use crate::asking::ask;
@@ -18,9 +18,10 @@ use crate::ids::one;
 use crate::names::{loaded_as, member_part};
 use crate::sums::beyond;
 use checked_tree::{Member, Shape, UnionShape};
-use deputy_types::{
-    ArrayPlace, Asked, AskedCond, Derived, Element, FoundArm, Place, Refusal, Source, UnionPlace,
+use deputy_rules::{
+    ArrayPlace, Asked, AskedCond, Derived, DerivingRefusal, FoundArm, Place, Source, UnionPlace,
 };
+use deputy_types::Element;
 use sd_base::{CheckKind, Name};
 use sqlite_items::Items;
 use std::alloc::{AllocError, Global};
@@ -49,7 +50,7 @@ fn struct_key(key: Element) -> Option<u32>
 }
 
 /// The struct of a place, by where its type is declared.
-#[tactic(auto, unfolding(deputy_types::specs::Places::struct_of))]
+#[tactic(auto, unfolding(deputy_rules::specs::Places::struct_of))]
 fn struct_of(ctx: &Context<'_>, source: Source) -> Option<u32>
     ensures { result ≡ spec.struct_of ctx.now source }
 {
@@ -107,32 +108,32 @@ fn member_at(
     structure: u32,
     member: u32,
     found: &Member,
-) -> Result<Derived, Refusal>
-    ensures { Gives (spec.member_at ctx.now place structure member found.now) result }
+) -> Result<Derived, DerivingRefusal>
+    ensures { Yields (spec.member_at ctx.now place structure member found.now) result }
 {
     if !ctx.types.is_array(structure, member) {
         return Ok(plain_member(alloc, place, structure, member, found.offset)?);
     }
     match ctx.types.member_key(structure, member) {
         Some(key) => Ok(array_member(alloc, place, found.offset, found.count, key)?),
-        None => Err(Refusal::NoRule),
+        None => Err(DerivingRefusal::NoRule),
     }
 }
 
 /// `l.f`, a field of the struct place l: the place of l plus the offset.
-#[tactic(auto, unfolding(deputy_types::specs::Places::member_place))]
+#[tactic(auto, unfolding(deputy_rules::specs::Places::member_place))]
 fn member_place(
     alloc: Global,
     ctx: &Context<'_>,
     place: Place,
     structure: u32,
     member: u32,
-) -> Result<Derived, Refusal>
-    ensures { Gives (spec.member_place ctx.now place structure member) result }
+) -> Result<Derived, DerivingRefusal>
+    ensures { Yields (spec.member_place ctx.now place structure member) result }
 {
     match ctx.types.member(structure, member) {
         Some(found) => member_at(alloc, ctx, place, structure, member, found),
-        None => Err(Refusal::NoRule),
+        None => Err(DerivingRefusal::NoRule),
     }
 }
 
@@ -156,29 +157,34 @@ fn part_by(
     structure: u32,
     name: &Name,
     field: Option<u32>,
-) -> Result<Derived, Refusal>
-    ensures { Gives (spec.part_by ctx.now place structure name.now field) result }
+) -> Result<Derived, DerivingRefusal>
+    ensures { Yields (spec.part_by ctx.now place structure name.now field) result }
 {
     match field {
         Some(member) => member_place(alloc, ctx, place, structure, member),
         None => match ctx.types.union_of(structure, name) {
             Some(part) => Ok(union_place(place, structure, part)),
-            None => Err(Refusal::NoRule),
+            None => Err(DerivingRefusal::NoRule),
         },
     }
 }
 
 /// `l.f`, l a place.
-#[tactic(auto, unfolding(deputy_types::specs::Places::part_of))]
-fn part_of(alloc: Global, ctx: &Context<'_>, place: Place, name: &Name) -> Result<Derived, Refusal>
-    ensures { Gives (spec.part_of ctx.now place name.now) result }
+#[tactic(auto, unfolding(deputy_rules::specs::Places::part_of))]
+fn part_of(
+    alloc: Global,
+    ctx: &Context<'_>,
+    place: Place,
+    name: &Name,
+) -> Result<Derived, DerivingRefusal>
+    ensures { Yields (spec.part_of ctx.now place name.now) result }
 {
     match struct_of(ctx, place.source) {
         Some(structure) => {
             let field = ctx.types.field(structure, name);
             part_by(alloc, ctx, place, structure, name, field)
         }
-        None => Err(Refusal::NoRule),
+        None => Err(DerivingRefusal::NoRule),
     }
 }
 
@@ -234,7 +240,7 @@ fn found_member(ctx: &Context<'_>, structure: u32, part: u32, number: u32) -> Op
 }
 
 /// An arm by its name.
-#[tactic(auto, unfolding(deputy_types::specs::Places::found_arm))]
+#[tactic(auto, unfolding(deputy_rules::specs::Places::found_arm))]
 fn found_arm(ctx: &Context<'_>, structure: u32, part: u32, name: &Name) -> Option<FoundArm>
     ensures { result ≡ spec.found_arm ctx.now structure part name.now }
 {
@@ -251,7 +257,7 @@ fn ask_tag(
     place: &UnionPlace,
     arm: FoundArm,
     asked: &mut Items<Asked>,
-) -> Result<usize, Refusal>
+) -> Result<usize, DerivingRefusal>
     ensures { Derives
         (asking.ask ctx.now kind.Tag (cond.Equal (values.member_part place.now.container arm.tag_scalar arm.tag_offset) arm.constant) asked.old)
         result asked.new }
@@ -288,14 +294,14 @@ fn arm_field(
 }
 
 /// `l.u.a`, an arm that was found.
-#[tactic(auto, unfolding(deputy_types::specs::Deriving::bind))]
+#[tactic(auto, unfolding(deputy_rules::specs::Deriving::bind))]
 fn arm_at(
     alloc: Global,
     ctx: &Context<'_>,
     place: UnionPlace,
     arm: FoundArm,
     asked: &mut Items<Asked>,
-) -> Result<Derived, Refusal>
+) -> Result<Derived, DerivingRefusal>
     ensures { Derives (spec.arm_at ctx.now place arm asked.old) result asked.new }
 {
     let id = ask_tag(alloc, ctx, &place, arm, asked)?;
@@ -303,38 +309,38 @@ fn arm_at(
 }
 
 /// `l.u.a`, an arm, as a field; Tag: the tag of l equals the arm's constant.
-#[tactic(auto, unfolding(deputy_types::specs::Deriving::bind, deputy_types::specs::Places::arm_place))]
+#[tactic(auto, unfolding(deputy_rules::specs::Deriving::bind, deputy_rules::specs::Places::arm_place))]
 fn arm_place(
     alloc: Global,
     ctx: &Context<'_>,
     place: UnionPlace,
     name: &Name,
     asked: &mut Items<Asked>,
-) -> Result<Derived, Refusal>
+) -> Result<Derived, DerivingRefusal>
     ensures { Derives (spec.arm_place ctx.now place name.now asked.old) result asked.new }
 {
     match found_arm(ctx, place.structure, place.part, name) {
         Some(arm) => arm_at(alloc, ctx, place, arm, asked),
-        None => Err(Refusal::NoRule),
+        None => Err(DerivingRefusal::NoRule),
     }
 }
 
 /// `l.f`.
-#[tactic(auto, unfolding(deputy_types::specs::Places::dotted))]
+#[tactic(auto, unfolding(deputy_rules::specs::Places::dotted))]
 pub fn dotted(
     alloc: Global,
     ctx: &Context<'_>,
     of: Derived,
     name: &Name,
     asked: &mut Items<Asked>,
-) -> Result<Derived, Refusal>
+) -> Result<Derived, DerivingRefusal>
     ensures { Derives (spec.dotted ctx.now of name.now asked.old) result asked.new }
 {
     match of {
         Derived::Place(place) => part_of(alloc, ctx, place, name),
         Derived::Union(place) => arm_place(alloc, ctx, place, name, asked),
-        Derived::Value(_) => Err(Refusal::NoRule),
-        Derived::Local(_) => Err(Refusal::NoRule),
-        Derived::Array(_) => Err(Refusal::NoRule),
+        Derived::Value(_) => Err(DerivingRefusal::NoRule),
+        Derived::Local(_) => Err(DerivingRefusal::NoRule),
+        Derived::Array(_) => Err(DerivingRefusal::NoRule),
     }
 }

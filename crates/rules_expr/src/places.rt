@@ -2,24 +2,23 @@
 ghost use Rattle.std.specs.Prelude.{◌≡◌, IfOk};
 ghost use Rattle.sd_base.specs.declared.kinds.CheckKind.TheVariants as kind;
 ghost use Rattle.checked_tree.specs.declared.expressions.CheckedExpr.TheVariants as form;
-ghost use Rattle.deputy_types.specs.declared.asked.AskedCond.TheVariants as cond;
-ghost use Rattle.deputy_types.specs.declared.derived.Derived.TheVariants as derived;
-ghost use Rattle.deputy_types.specs.declared.derived.Source.TheVariants as source;
-ghost use Rattle.deputy_types.specs.Deriving as asking;
-ghost use Rattle.deputy_types.specs.Deriving.{Derives, Gives};
-ghost use Rattle.deputy_types.specs.Places as spec;
+ghost use Rattle.deputy_rules.specs.declared.asked.AskedCond.TheVariants as cond;
+ghost use Rattle.deputy_rules.specs.declared.derived.Derived.TheVariants as derived;
+ghost use Rattle.deputy_rules.specs.declared.derived.Source.TheVariants as source;
+ghost use Rattle.deputy_rules.specs.Deriving as asking;
+ghost use Rattle.deputy_rules.specs.Deriving.{Derives, Yields};
+ghost use Rattle.deputy_rules.specs.Places as spec;
 
 use crate::Context;
 use crate::asking::ask;
-use crate::copies::copy_sum;
 use crate::forms::{block_form, element_form, through_form};
 use crate::ids::{Ids, joined, one, with_id};
 use crate::sums::{beyond, constant, side, times, with_part};
-use checked_tree::{ImageBlock, Scalar, Sum};
-use deputy_types::{
-    ArrayPlace, Asked, AskedCond, Derived, Element, GlobalPlace, Place, Pointed, Refusal, Source,
-    Whole,
+use checked_tree::{ImageBlock, Scalar, Sum, copied_sum};
+use deputy_rules::{
+    ArrayPlace, Asked, AskedCond, Derived, DerivingRefusal, Place, Pointed, Source, Whole,
 };
+use deputy_types::{Element, GlobalPlace};
 use sd_base::{CheckKind, Name};
 use sqlite_items::Items;
 use std::alloc::{AllocError, Global};
@@ -51,58 +50,62 @@ fn block_place(
 }
 
 /// A global.
-#[tactic(auto, unfolding(deputy_types::specs::Places::global_place))]
-fn global_place(alloc: Global, ctx: &Context<'_>, global: GlobalPlace) -> Result<Derived, Refusal>
-    ensures { Gives (spec.global_place ctx.now global) result }
+#[tactic(auto, unfolding(deputy_rules::specs::Places::global_place))]
+fn global_place(
+    alloc: Global,
+    ctx: &Context<'_>,
+    global: GlobalPlace,
+) -> Result<Derived, DerivingRefusal>
+    ensures { Yields (spec.global_place ctx.now global) result }
 {
     match sqlite_items::at(ctx.types.image(), global.block as usize) {
         Some(block) => match ctx.types.element_at(block.elem) {
             Some(key) => Ok(block_place(alloc, global.array, block, key)?),
-            None => Err(Refusal::NoRule),
+            None => Err(DerivingRefusal::NoRule),
         },
-        None => Err(Refusal::NoRule),
+        None => Err(DerivingRefusal::NoRule),
     }
 }
 
 /// A parameter or local whose declaration is derived.
-fn local_of(ctx: &Context<'_>, slot: u32) -> Result<Derived, Refusal>
-    ensures { Gives (spec.local_of ctx.now slot) result }
+fn local_of(ctx: &Context<'_>, slot: u32) -> Result<Derived, DerivingRefusal>
+    ensures { Yields (spec.local_of ctx.now slot) result }
 {
     match ctx.slot_shape(slot) {
         Some(_) => Ok(Derived::Local(slot)),
-        None => Err(Refusal::NoRule),
+        None => Err(DerivingRefusal::NoRule),
     }
 }
 
 /// A name: a parameter or local, which hides a global, or else a global.
-#[tactic(auto, unfolding(deputy_types::specs::Places::named))]
-pub fn named(alloc: Global, ctx: &Context<'_>, name: &Name) -> Result<Derived, Refusal>
-    ensures { Gives (spec.named ctx.now name.now) result }
+#[tactic(auto, unfolding(deputy_rules::specs::Places::named))]
+pub fn named(alloc: Global, ctx: &Context<'_>, name: &Name) -> Result<Derived, DerivingRefusal>
+    ensures { Yields (spec.named ctx.now name.now) result }
 {
     match ctx.locals.slot(name) {
         Some(slot) => local_of(ctx, slot),
         None => match ctx.types.global(name) {
             Some(global) => global_place(alloc, ctx, global),
-            None => Err(Refusal::NoRule),
+            None => Err(DerivingRefusal::NoRule),
         },
     }
 }
 
 /// Null, `1 <= v`, unless the pointer is sure.
-#[tactic(auto, unfolding(deputy_types::specs::Deriving::bind, deputy_types::specs::Places::not_null))]
+#[tactic(auto, unfolding(deputy_rules::specs::Deriving::bind, deputy_rules::specs::Places::not_null))]
 pub fn not_null(
     alloc: Global,
     ctx: &Context<'_>,
     pointer: &Pointed,
     asked: &mut Items<Asked>,
-) -> Result<Ids, Refusal>
+) -> Result<Ids, DerivingRefusal>
     ensures { Derives (spec.not_null ctx.now pointer.now asked.old) result asked.new }
 {
     if pointer.sure {
         return Ok(Items::new(alloc));
     }
     let left = constant(alloc, 1)?;
-    let right = copy_sum(alloc, &pointer.at)?;
+    let right = copied_sum(alloc, &pointer.at)?;
     let id = ask(ctx, CheckKind::Null, AskedCond::Le { left, right }, asked)?;
     Ok(one(alloc, id)?)
 }
@@ -114,10 +117,10 @@ fn ask_below_high(
     left: Sum,
     pointer: &Pointed,
     asked: &mut Items<Asked>,
-) -> Result<usize, Refusal>
+) -> Result<usize, DerivingRefusal>
     ensures { Derives (asking.ask ctx.now kind.Bound (cond.Le left pointer.now.high) asked.old) result asked.new }
 {
-    let right = copy_sum(alloc, &pointer.high)?;
+    let right = copied_sum(alloc, &pointer.high)?;
     ask(ctx, CheckKind::Bound, AskedCond::Le { left, right }, asked)
 }
 
@@ -139,18 +142,18 @@ fn place_through(
 }
 
 /// `*e`, e not nullterm: the place `v`; Null, and Bound `v + s <= hi`.
-#[tactic(auto, unfolding(deputy_types::specs::Deriving::bind, deputy_types::specs::Places::through))]
+#[tactic(auto, unfolding(deputy_rules::specs::Deriving::bind, deputy_rules::specs::Places::through))]
 pub fn through(
     alloc: Global,
     ctx: &Context<'_>,
     pointer: Pointed,
     asked: &mut Items<Asked>,
-) -> Result<Derived, Refusal>
+) -> Result<Derived, DerivingRefusal>
     ensures { Derives (spec.through ctx.now pointer asked.old) result asked.new }
 {
     let ids = not_null(alloc, ctx, &pointer, asked)?;
     let end = beyond(
-        copy_sum(alloc, &pointer.at)?,
+        copied_sum(alloc, &pointer.at)?,
         i64::from(ctx.size_of(pointer.elem)),
     )?;
     let id = ask_below_high(alloc, ctx, end, &pointer, asked)?;
@@ -160,13 +163,13 @@ pub fn through(
 }
 
 /// `*e` and `e[0]`, e nullterm: the place `v`; Null.
-#[tactic(auto, unfolding(deputy_types::specs::Deriving::bind, deputy_types::specs::Places::through_text))]
+#[tactic(auto, unfolding(deputy_rules::specs::Deriving::bind, deputy_rules::specs::Places::through_text))]
 pub fn through_text(
     alloc: Global,
     ctx: &Context<'_>,
     pointer: Pointed,
     asked: &mut Items<Asked>,
-) -> Result<Derived, Refusal>
+) -> Result<Derived, DerivingRefusal>
     ensures { Derives (spec.through_text ctx.now pointer asked.old) result asked.new }
 {
     let ids = not_null(alloc, ctx, &pointer, asked)?;
@@ -174,13 +177,13 @@ pub fn through_text(
 }
 
 /// `*e`.
-#[tactic(auto, unfolding(deputy_types::specs::Places::followed))]
+#[tactic(auto, unfolding(deputy_rules::specs::Places::followed))]
 pub fn followed(
     alloc: Global,
     ctx: &Context<'_>,
     pointer: Pointed,
     asked: &mut Items<Asked>,
-) -> Result<Derived, Refusal>
+) -> Result<Derived, DerivingRefusal>
     ensures { Derives (spec.followed ctx.now pointer asked.old) result asked.new }
 {
     if pointer.nullterm {
@@ -201,7 +204,7 @@ pub fn is_unsigned(scalar: Scalar) -> bool
 }
 
 /// Bound `lo <= v`, where it is wanted.
-#[tactic(auto, unfolding(deputy_types::specs::Deriving::bind))]
+#[tactic(auto, unfolding(deputy_rules::specs::Deriving::bind))]
 pub fn not_below(
     alloc: Global,
     ctx: &Context<'_>,
@@ -209,20 +212,20 @@ pub fn not_below(
     low: &Sum,
     at: &Sum,
     asked: &mut Items<Asked>,
-) -> Result<Ids, Refusal>
+) -> Result<Ids, DerivingRefusal>
     ensures { Derives (spec.not_below ctx.now wanted low.now at.now asked.old) result asked.new }
 {
     if !wanted {
         return Ok(Items::new(alloc));
     }
-    let left = copy_sum(alloc, low)?;
-    let right = copy_sum(alloc, at)?;
+    let left = copied_sum(alloc, low)?;
+    let right = copied_sum(alloc, at)?;
     let id = ask(ctx, CheckKind::Bound, AskedCond::Le { left, right }, asked)?;
     Ok(one(alloc, id)?)
 }
 
 /// Bound `v <= hi`, where it is wanted.
-#[tactic(auto, unfolding(deputy_types::specs::Deriving::bind))]
+#[tactic(auto, unfolding(deputy_rules::specs::Deriving::bind))]
 pub fn not_above(
     alloc: Global,
     ctx: &Context<'_>,
@@ -230,14 +233,14 @@ pub fn not_above(
     at: &Sum,
     high: &Sum,
     asked: &mut Items<Asked>,
-) -> Result<Ids, Refusal>
+) -> Result<Ids, DerivingRefusal>
     ensures { Derives (spec.not_above ctx.now wanted at.now high.now asked.old) result asked.new }
 {
     if !wanted {
         return Ok(Items::new(alloc));
     }
-    let left = copy_sum(alloc, at)?;
-    let right = copy_sum(alloc, high)?;
+    let left = copied_sum(alloc, at)?;
+    let right = copied_sum(alloc, high)?;
     let id = ask(ctx, CheckKind::Bound, AskedCond::Le { left, right }, asked)?;
     Ok(one(alloc, id)?)
 }
@@ -246,12 +249,12 @@ pub fn not_above(
 pub fn moved_sum(alloc: Global, at: &Sum, index: &Whole, size: i64) -> Result<Sum, AllocError>
     ensures { IfOk result (λ s. s ≡ spec.moved_sum at.now index.now size) }
 {
-    let start = copy_sum(alloc, at)?;
+    let start = copied_sum(alloc, at)?;
     with_part(start, times(size, side(alloc, index)?))
 }
 
 /// Null, Bound `lo <= v + s*i` where i is `int`, Bound `v + s*i + s <= hi`.
-#[tactic(auto, unfolding(deputy_types::specs::Deriving::bind))]
+#[tactic(auto, unfolding(deputy_rules::specs::Deriving::bind))]
 fn index_checks(
     alloc: Global,
     ctx: &Context<'_>,
@@ -260,14 +263,14 @@ fn index_checks(
     size: u32,
     at: &Sum,
     asked: &mut Items<Asked>,
-) -> Result<Ids, Refusal>
+) -> Result<Ids, DerivingRefusal>
     ensures { Derives (spec.index_checks ctx.now pointer.now index.now size at.now asked.old) result asked.new }
 {
     let ids = not_null(alloc, ctx, pointer, asked)?;
     let signed = !is_unsigned(index.scalar);
     let more = not_below(alloc, ctx, signed, &pointer.low, at, asked)?;
     let ids = joined(ids, more)?;
-    let end = beyond(copy_sum(alloc, at)?, i64::from(size))?;
+    let end = beyond(copied_sum(alloc, at)?, i64::from(size))?;
     let id = ask_below_high(alloc, ctx, end, pointer, asked)?;
     Ok(with_id(ids, id)?)
 }
@@ -293,7 +296,7 @@ fn element_place(
 }
 
 /// `e[i]` at this address.
-#[tactic(auto, unfolding(deputy_types::specs::Deriving::bind))]
+#[tactic(auto, unfolding(deputy_rules::specs::Deriving::bind))]
 fn indexed_at(
     alloc: Global,
     ctx: &Context<'_>,
@@ -302,7 +305,7 @@ fn indexed_at(
     size: u32,
     at: Sum,
     asked: &mut Items<Asked>,
-) -> Result<Derived, Refusal>
+) -> Result<Derived, DerivingRefusal>
     ensures { Derives (spec.indexed_at ctx.now pointer index size at asked.old) result asked.new }
 {
     let ids = index_checks(alloc, ctx, &pointer, &index, size, &at, asked)?;
@@ -310,14 +313,14 @@ fn indexed_at(
 }
 
 /// `e[i]`, e not nullterm, i integer: the place `v + s*i`.
-#[tactic(auto, unfolding(deputy_types::specs::Places::indexed))]
+#[tactic(auto, unfolding(deputy_rules::specs::Places::indexed))]
 pub fn indexed(
     alloc: Global,
     ctx: &Context<'_>,
     pointer: Pointed,
     index: Whole,
     asked: &mut Items<Asked>,
-) -> Result<Derived, Refusal>
+) -> Result<Derived, DerivingRefusal>
     ensures { Derives (spec.indexed ctx.now pointer index asked.old) result asked.new }
 {
     let size = ctx.size_of(pointer.elem);

@@ -3,25 +3,24 @@ ghost use Rattle.std.specs.Prelude.{◌≡◌, [], ◌∷◌, ◌++◌, pos, tru
 ghost use Rattle.sd_base.specs.declared.kinds.CheckKind.TheVariants as kind;
 ghost use Rattle.checked_tree.specs.declared.expressions.CheckedExpr.TheVariants as form;
 ghost use Rattle.checked_tree.specs.declared.expressions.PointerSum.TheVariants as pointer_sum;
-ghost use Rattle.deputy_types.specs.declared.asked.AskedCond.TheVariants as cond;
-ghost use Rattle.deputy_types.specs.Deriving as asking;
-ghost use Rattle.deputy_types.specs.Deriving.{Derives, Gives};
-ghost use Rattle.deputy_types.specs.Pointers as spec;
+ghost use Rattle.deputy_rules.specs.declared.asked.AskedCond.TheVariants as cond;
+ghost use Rattle.deputy_rules.specs.Deriving as asking;
+ghost use Rattle.deputy_rules.specs.Deriving.{Derives, Yields};
+ghost use Rattle.deputy_rules.specs.Pointers as spec;
 
 use crate::Context;
 use crate::asking::ask;
-use crate::copies::copy_sum;
 use crate::forms::{address_form, block_form, moved_form};
 use crate::ids::{Ids, joined, one};
 use crate::places::{
     indexed, is_unsigned, moved_sum, not_above, not_below, not_null, through_text,
 };
 use crate::sums::{beyond, constant};
-use checked_tree::{CheckedExpr, ImageBlock, Member, PointerSum, Scalar, Sum};
-use deputy_types::{
-    Asked, AskedCond, Derived, Element, Place, Pointed, Refusal, Source, Value, Whole, Written,
-    has_names,
+use checked_tree::{CheckedExpr, ImageBlock, Member, PointerSum, Scalar, Sum, copied_sum};
+use deputy_rules::{
+    Asked, AskedCond, Derived, DerivingRefusal, Place, Pointed, Source, Value, Whole, Written,
 };
+use deputy_types::{Element, has_names};
 use sd_base::CheckKind;
 use sqlite_items::{Boxed, Items};
 use std::alloc::{AllocError, Global};
@@ -54,16 +53,16 @@ fn string_at(alloc: Global, block: &ImageBlock) -> Result<Derived, AllocError>
 }
 
 /// The string with this number in the text.
-#[tactic(auto, unfolding(deputy_types::specs::Pointers::string))]
-pub fn string(alloc: Global, ctx: &Context<'_>, number: u32) -> Result<Derived, Refusal>
-    ensures { Gives (spec.string ctx.now number) result }
+#[tactic(auto, unfolding(deputy_rules::specs::Pointers::string))]
+pub fn string(alloc: Global, ctx: &Context<'_>, number: u32) -> Result<Derived, DerivingRefusal>
+    ensures { Yields (spec.string ctx.now number) result }
 {
     match ctx.types.literal(number) {
         Some(block) => match sqlite_items::at(ctx.types.image(), block as usize) {
             Some(found) => Ok(string_at(alloc, found)?),
-            None => Err(Refusal::NoRule),
+            None => Err(DerivingRefusal::NoRule),
         },
-        None => Err(Refusal::NoRule),
+        None => Err(DerivingRefusal::NoRule),
     }
 }
 
@@ -78,7 +77,7 @@ fn has_address(ctx: &Context<'_>, structure: u32, number: u32, member: &Member) 
 }
 
 /// The type of a member that has an address.
-#[tactic(auto, unfolding(deputy_types::specs::Pointers::addressed_member))]
+#[tactic(auto, unfolding(deputy_rules::specs::Pointers::addressed_member))]
 fn addressed_member(ctx: &Context<'_>, structure: u32, number: u32) -> Option<Element>
     ensures { result ≡ spec.addressed_member ctx.now structure number }
 {
@@ -95,7 +94,7 @@ fn addressed_member(ctx: &Context<'_>, structure: u32, number: u32) -> Option<El
 }
 
 /// The type of a place that has an address: none through a nullterm pointer has.
-#[tactic(auto, unfolding(deputy_types::specs::Pointers::addressed))]
+#[tactic(auto, unfolding(deputy_rules::specs::Pointers::addressed))]
 fn addressed(ctx: &Context<'_>, source: Source) -> Option<Element>
     ensures { result ≡ spec.addressed ctx.now source }
 {
@@ -117,8 +116,8 @@ fn address_at(
 {
     let form = address_form(alloc, place.form)?;
     let at = place.at;
-    let low = copy_sum(alloc, &at)?;
-    let high = beyond(copy_sum(alloc, &at)?, i64::from(ctx.size_of(key)))?;
+    let low = copied_sum(alloc, &at)?;
+    let high = beyond(copied_sum(alloc, &at)?, i64::from(ctx.size_of(key)))?;
     Ok(pointer(Pointed {
         form,
         elem: key,
@@ -131,27 +130,31 @@ fn address_at(
 }
 
 /// The address of a place.
-#[tactic(auto, unfolding(deputy_types::specs::Pointers::address_of_place))]
-fn address_of_place(alloc: Global, ctx: &Context<'_>, place: Place) -> Result<Derived, Refusal>
-    ensures { Gives (spec.address_of_place ctx.now place) result }
+#[tactic(auto, unfolding(deputy_rules::specs::Pointers::address_of_place))]
+fn address_of_place(
+    alloc: Global,
+    ctx: &Context<'_>,
+    place: Place,
+) -> Result<Derived, DerivingRefusal>
+    ensures { Yields (spec.address_of_place ctx.now place) result }
 {
     match addressed(ctx, place.source) {
         Some(key) => Ok(address_at(alloc, ctx, place, key)?),
-        None => Err(Refusal::NoRule),
+        None => Err(DerivingRefusal::NoRule),
     }
 }
 
 /// `&l`: no local, union or array has an address.
-#[tactic(auto, unfolding(deputy_types::specs::Pointers::address_of))]
-pub fn address_of(alloc: Global, ctx: &Context<'_>, of: Derived) -> Result<Derived, Refusal>
-    ensures { Gives (spec.address_of ctx.now of) result }
+#[tactic(auto, unfolding(deputy_rules::specs::Pointers::address_of))]
+pub fn address_of(alloc: Global, ctx: &Context<'_>, of: Derived) -> Result<Derived, DerivingRefusal>
+    ensures { Yields (spec.address_of ctx.now of) result }
 {
     match of {
         Derived::Place(place) => address_of_place(alloc, ctx, place),
-        Derived::Value(_) => Err(Refusal::NoRule),
-        Derived::Local(_) => Err(Refusal::NoRule),
-        Derived::Array(_) => Err(Refusal::NoRule),
-        Derived::Union(_) => Err(Refusal::NoRule),
+        Derived::Value(_) => Err(DerivingRefusal::NoRule),
+        Derived::Local(_) => Err(DerivingRefusal::NoRule),
+        Derived::Array(_) => Err(DerivingRefusal::NoRule),
+        Derived::Union(_) => Err(DerivingRefusal::NoRule),
     }
 }
 
@@ -189,7 +192,7 @@ fn may_rise(how: PointerSum, unsigned: bool) -> bool
 }
 
 /// Null, Bound `lo <=` new `v`, and Bound new `v <= hi`, where they are wanted.
-#[tactic(auto, unfolding(deputy_types::specs::Deriving::bind))]
+#[tactic(auto, unfolding(deputy_rules::specs::Deriving::bind))]
 fn move_checks(
     alloc: Global,
     ctx: &Context<'_>,
@@ -198,7 +201,7 @@ fn move_checks(
     by: &Whole,
     at: &Sum,
     asked: &mut Items<Asked>,
-) -> Result<Ids, Refusal>
+) -> Result<Ids, DerivingRefusal>
     ensures { Derives (spec.move_checks ctx.now how from.now by.now at.now asked.old) result asked.new }
 {
     let unsigned = is_unsigned(by.scalar);
@@ -242,7 +245,7 @@ fn moved_pointer(
 }
 
 /// `e + i`, `i + e`, `e - i`, with this value.
-#[tactic(auto, unfolding(deputy_types::specs::Deriving::bind))]
+#[tactic(auto, unfolding(deputy_rules::specs::Deriving::bind))]
 fn moved_to(
     alloc: Global,
     ctx: &Context<'_>,
@@ -252,7 +255,7 @@ fn moved_to(
     size: u32,
     at: Sum,
     asked: &mut Items<Asked>,
-) -> Result<Derived, Refusal>
+) -> Result<Derived, DerivingRefusal>
     ensures { Derives (spec.moved_to ctx.now how from by size at asked.old) result asked.new }
 {
     let ids = move_checks(alloc, ctx, how, &from, &by, &at, asked)?;
@@ -260,7 +263,7 @@ fn moved_to(
 }
 
 /// `e + i`, `i + e`, `e - i`, e not nullterm: `v` moved by `s*i`, same bounds.
-#[tactic(auto, unfolding(deputy_types::specs::Pointers::moved))]
+#[tactic(auto, unfolding(deputy_rules::specs::Pointers::moved))]
 pub fn moved(
     alloc: Global,
     ctx: &Context<'_>,
@@ -268,7 +271,7 @@ pub fn moved(
     from: Pointed,
     by: Whole,
     asked: &mut Items<Asked>,
-) -> Result<Derived, Refusal>
+) -> Result<Derived, DerivingRefusal>
     ensures { Derives (spec.moved ctx.now how from by asked.old) result asked.new }
 {
     let size = ctx.size_of(from.elem);
@@ -288,20 +291,20 @@ pub fn is_written(n: u32, written: Written) -> bool
 }
 
 /// Term: the byte at the address is not 0, where it is wanted.
-#[tactic(auto, unfolding(deputy_types::specs::Deriving::bind))]
+#[tactic(auto, unfolding(deputy_rules::specs::Deriving::bind))]
 fn not_ended(
     alloc: Global,
     ctx: &Context<'_>,
     wanted: bool,
     at: &Sum,
     asked: &mut Items<Asked>,
-) -> Result<Ids, Refusal>
+) -> Result<Ids, DerivingRefusal>
     ensures { Derives (spec.not_ended ctx.now wanted at.now asked.old) result asked.new }
 {
     if !wanted {
         return Ok(Items::new(alloc));
     }
-    let at = copy_sum(alloc, at)?;
+    let at = copied_sum(alloc, at)?;
     let id = ask(
         ctx,
         CheckKind::Term,
@@ -312,14 +315,14 @@ fn not_ended(
 }
 
 /// Null, and for 1 Term.
-#[tactic(auto, unfolding(deputy_types::specs::Deriving::bind))]
+#[tactic(auto, unfolding(deputy_rules::specs::Deriving::bind))]
 fn text_checks(
     alloc: Global,
     ctx: &Context<'_>,
     from: &Pointed,
     by: &Whole,
     asked: &mut Items<Asked>,
-) -> Result<Ids, Refusal>
+) -> Result<Ids, DerivingRefusal>
     ensures { Derives (spec.text_checks ctx.now from.now by.now asked.old) result asked.new }
 {
     let ids = not_null(alloc, ctx, from, asked)?;
@@ -347,8 +350,8 @@ fn moved_text(
     }) }
 {
     let form = moved_form(alloc, PointerSum::PointerPlus, from.form, by, size, checks)?;
-    let low = copy_sum(alloc, &at)?;
-    let high = copy_sum(alloc, &at)?;
+    let low = copied_sum(alloc, &at)?;
+    let high = copied_sum(alloc, &at)?;
     Ok(Pointed {
         form,
         elem: from.elem,
@@ -361,7 +364,7 @@ fn moved_text(
 }
 
 /// `e + 0` and `e + 1`, with this value.
-#[tactic(auto, unfolding(deputy_types::specs::Deriving::bind))]
+#[tactic(auto, unfolding(deputy_rules::specs::Deriving::bind))]
 fn text_to(
     alloc: Global,
     ctx: &Context<'_>,
@@ -370,7 +373,7 @@ fn text_to(
     size: u32,
     at: Sum,
     asked: &mut Items<Asked>,
-) -> Result<Pointed, Refusal>
+) -> Result<Pointed, DerivingRefusal>
     ensures { Derives (spec.text_to ctx.now from by size at asked.old) result asked.new }
 {
     let ids = text_checks(alloc, ctx, &from, &by, asked)?;
@@ -378,14 +381,14 @@ fn text_to(
 }
 
 /// `e + 0`, `e + 1`, e nullterm: `v`, `v + 1`.
-#[tactic(auto, unfolding(deputy_types::specs::Pointers::text_moved))]
+#[tactic(auto, unfolding(deputy_rules::specs::Pointers::text_moved))]
 fn text_moved(
     alloc: Global,
     ctx: &Context<'_>,
     from: Pointed,
     by: Whole,
     asked: &mut Items<Asked>,
-) -> Result<Pointed, Refusal>
+) -> Result<Pointed, DerivingRefusal>
     ensures { Derives (spec.text_moved ctx.now from by asked.old) result asked.new }
 {
     let size = ctx.size_of(from.elem);
@@ -394,28 +397,28 @@ fn text_moved(
 }
 
 /// The same, as a derived expression.
-#[tactic(auto, unfolding(deputy_types::specs::Deriving::bind))]
+#[tactic(auto, unfolding(deputy_rules::specs::Deriving::bind))]
 fn text_stepped(
     alloc: Global,
     ctx: &Context<'_>,
     from: Pointed,
     by: Whole,
     asked: &mut Items<Asked>,
-) -> Result<Derived, Refusal>
+) -> Result<Derived, DerivingRefusal>
     ensures { Derives (spec.text_stepped ctx.now from by asked.old) result asked.new }
 {
     Ok(pointer(text_moved(alloc, ctx, from, by, asked)?))
 }
 
 /// `e + i`, e nullterm: for the numbers 0 and 1.
-#[tactic(auto, unfolding(deputy_types::specs::Pointers::text_sum))]
+#[tactic(auto, unfolding(deputy_rules::specs::Pointers::text_sum))]
 pub fn text_sum(
     alloc: Global,
     ctx: &Context<'_>,
     from: Pointed,
     by: Whole,
     asked: &mut Items<Asked>,
-) -> Result<Derived, Refusal>
+) -> Result<Derived, DerivingRefusal>
     ensures { Derives (spec.text_sum ctx.now from by asked.old) result asked.new }
 {
     if is_written(0, by.written) {
@@ -424,18 +427,18 @@ pub fn text_sum(
     if is_written(1, by.written) {
         return text_stepped(alloc, ctx, from, by, asked);
     }
-    Err(Refusal::NoRule)
+    Err(DerivingRefusal::NoRule)
 }
 
 /// `e[1]`, e nullterm, as `*(e + 1)`.
-#[tactic(auto, unfolding(deputy_types::specs::Deriving::bind))]
+#[tactic(auto, unfolding(deputy_rules::specs::Deriving::bind))]
 fn text_second(
     alloc: Global,
     ctx: &Context<'_>,
     from: Pointed,
     by: Whole,
     asked: &mut Items<Asked>,
-) -> Result<Derived, Refusal>
+) -> Result<Derived, DerivingRefusal>
     ensures { Derives (spec.text_second ctx.now from by asked.old) result asked.new }
 {
     let second = text_moved(alloc, ctx, from, by, asked)?;
@@ -443,14 +446,14 @@ fn text_second(
 }
 
 /// `e[0]`, e nullterm, as `*e`; `e[1]` as `*(e + 1)`.
-#[tactic(auto, unfolding(deputy_types::specs::Pointers::text_indexed))]
+#[tactic(auto, unfolding(deputy_rules::specs::Pointers::text_indexed))]
 fn text_indexed(
     alloc: Global,
     ctx: &Context<'_>,
     from: Pointed,
     by: Whole,
     asked: &mut Items<Asked>,
-) -> Result<Derived, Refusal>
+) -> Result<Derived, DerivingRefusal>
     ensures { Derives (spec.text_indexed ctx.now from by asked.old) result asked.new }
 {
     if is_written(0, by.written) {
@@ -459,18 +462,18 @@ fn text_indexed(
     if is_written(1, by.written) {
         return text_second(alloc, ctx, from, by, asked);
     }
-    Err(Refusal::NoRule)
+    Err(DerivingRefusal::NoRule)
 }
 
 /// `e[i]`.
-#[tactic(auto, unfolding(deputy_types::specs::Pointers::indexed_by))]
+#[tactic(auto, unfolding(deputy_rules::specs::Pointers::indexed_by))]
 pub fn indexed_by(
     alloc: Global,
     ctx: &Context<'_>,
     from: Pointed,
     by: Whole,
     asked: &mut Items<Asked>,
-) -> Result<Derived, Refusal>
+) -> Result<Derived, DerivingRefusal>
     ensures { Derives (spec.indexed_by ctx.now from by asked.old) result asked.new }
 {
     if from.nullterm {

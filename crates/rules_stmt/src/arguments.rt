@@ -1,30 +1,28 @@
 //! The arguments of a call: each as its parameter takes it, and the coercions to the parameters' types.
 ghost use Rattle.std.specs.Prelude.{◌≡◌, [], map, IfOk};
-ghost use Rattle.deputy_types.specs.Calls as spec;
-ghost use Rattle.deputy_types.specs.Deriving.{Derives, Gives};
+ghost use Rattle.deputy_rules.specs.Calls as spec;
+ghost use Rattle.deputy_rules.specs.Deriving.{Derives, Yields};
 ghost use Rattle.deputy_types.specs.Options.{and_then};
 ghost use Rattle.checked_tree.specs.declared.shapes.Shape.TheVariants as shaped;
 
 use crate::coerce::coerce_to;
 use crate::convert::{converted_side, handed};
 use c_tree::Expr;
-use checked_tree::{Argument, Bounds, Scalar, Shape, Sum};
-use deputy_types::{Asked, Derived, Handed, Names, Naming, Passed, Refusal};
-use rules_expr::{
-    Context, Ids, copy_form, copy_part, copy_sum, derive, integer_of, is_nullterm, sum_of,
-};
+use checked_tree::{Argument, Bounds, Scalar, Shape, Sum, copied_part, copied_sum};
+use deputy_rules::{Asked, Derived, DerivingRefusal, Handed, Names, Naming, Passed};
+use rules_expr::{Context, Ids, boxed_copy, derive, integer_of, is_nullterm, sum_of};
 use sqlite_items::Items;
 use std::alloc::{AllocError, Global};
 
 /// An integer argument.
-#[tactic(auto, unfolding(deputy_types::specs::Calls::pass))]
+#[tactic(auto, unfolding(deputy_rules::specs::Calls::pass))]
 fn pass_integer(
     alloc: Global,
     ctx: &Context<'_>,
     scalar: Scalar,
     value: Derived,
-) -> Result<Passed, Refusal>
-    ensures { Gives (spec.pass ctx.now (shaped.Int scalar) value) result }
+) -> Result<Passed, DerivingRefusal>
+    ensures { Yields (spec.pass ctx.now (shaped.Int scalar) value) result }
 {
     let w = integer_of(alloc, ctx, value)?;
     let side = converted_side(alloc, scalar, &w)?;
@@ -36,40 +34,40 @@ fn pass_integer(
 }
 
 /// A pointer argument.
-#[tactic(auto, unfolding(deputy_types::specs::Calls::pass))]
+#[tactic(auto, unfolding(deputy_rules::specs::Calls::pass))]
 fn pass_pointer(
     alloc: Global,
     ctx: &Context<'_>,
     elem: u32,
     bounds: &Bounds,
     value: Derived,
-) -> Result<Passed, Refusal>
-    ensures { Gives (spec.pass ctx.now (shaped.Pointer elem bounds.now) value) result }
+) -> Result<Passed, DerivingRefusal>
+    ensures { Yields (spec.pass ctx.now (shaped.Pointer elem bounds.now) value) result }
 {
     match ctx.types.element_at(elem) {
         Some(key) => {
             let h = handed(alloc, ctx, key, is_nullterm(bounds), value)?;
             Ok(Passed::Pointer(h))
         }
-        None => Err(Refusal::NoRule),
+        None => Err(DerivingRefusal::NoRule),
     }
 }
 
 /// What was derived, as a parameter of this shape takes it. No rule where it has no such type.
-#[tactic(auto, unfolding(deputy_types::specs::Calls::pass))]
+#[tactic(auto, unfolding(deputy_rules::specs::Calls::pass))]
 pub(crate) fn pass(
     alloc: Global,
     ctx: &Context<'_>,
     shape: &Shape,
     value: Derived,
-) -> Result<Passed, Refusal>
-    ensures { Gives (spec.pass ctx.now shape.now value) result }
+) -> Result<Passed, DerivingRefusal>
+    ensures { Yields (spec.pass ctx.now shape.now value) result }
 {
     match shape {
         Shape::Int(scalar) => pass_integer(alloc, ctx, *scalar, value),
         Shape::Pointer { elem, bounds } => pass_pointer(alloc, ctx, *elem, bounds, value),
-        Shape::Struct(_) => Err(Refusal::NoRule),
-        Shape::Address => Err(Refusal::NoRule),
+        Shape::Struct(_) => Err(DerivingRefusal::NoRule),
+        Shape::Address => Err(DerivingRefusal::NoRule),
     }
 }
 
@@ -79,24 +77,24 @@ fn pass_to(
     ctx: &Context<'_>,
     shape: &Option<Shape>,
     value: Derived,
-) -> Result<Passed, Refusal>
-    ensures { Gives (and_then shape.now (λ y. spec.pass ctx.now y value)) result }
+) -> Result<Passed, DerivingRefusal>
+    ensures { Yields (and_then shape.now (λ y. spec.pass ctx.now y value)) result }
 {
     match shape {
         Some(found) => pass(alloc, ctx, found, value),
-        None => Err(Refusal::NoRule),
+        None => Err(DerivingRefusal::NoRule),
     }
 }
 
 /// One argument.
-#[tactic(auto, unfolding(deputy_types::specs::Deriving::bind, deputy_types::specs::Calls::pass_one))]
+#[tactic(auto, unfolding(deputy_rules::specs::Deriving::bind, deputy_rules::specs::Calls::pass_one))]
 fn pass_one(
     alloc: Global,
     ctx: &Context<'_>,
     shape: &Option<Shape>,
     e: &Expr,
     asked: &mut Items<Asked>,
-) -> Result<Passed, Refusal>
+) -> Result<Passed, DerivingRefusal>
     ensures { Derives (spec.pass_one ctx.now shape.now e.now asked.old) result asked.new }
 {
     let value = derive(alloc, ctx, e, asked)?;
@@ -104,14 +102,14 @@ fn pass_one(
 }
 
 /// The arguments from left to right, one for each parameter. No rule where there are more or fewer.
-#[tactic(auto, unfolding(deputy_types::specs::Deriving::bind))]
+#[tactic(auto, unfolding(deputy_rules::specs::Deriving::bind))]
 pub(crate) fn pass_each(
     alloc: Global,
     ctx: &Context<'_>,
     params: &[Option<Shape>],
     args: &[Expr],
     asked: &mut Items<Asked>,
-) -> Result<Items<Passed>, Refusal>
+) -> Result<Items<Passed>, DerivingRefusal>
     ensures { Derives (spec.pass_each ctx.now params.now args.now [] asked.old) result asked.new }
 {
     let mut done = Items::new(alloc);
@@ -122,12 +120,12 @@ pub(crate) fn pass_each(
                 done.push(pass_one(alloc, ctx, shape, e, asked)?)?;
                 rest = more;
             }
-            [] => return Err(Refusal::NoRule),
+            [] => return Err(DerivingRefusal::NoRule),
         }
     }
     match rest {
         [] => Ok(done),
-        [_, ..] => Err(Refusal::NoRule),
+        [_, ..] => Err(DerivingRefusal::NoRule),
     }
 }
 
@@ -140,8 +138,8 @@ fn passed_sum(alloc: Global, passed: &Passed) -> Result<Sum, AllocError>
             scalar: _,
             form: _,
             side,
-        } => sum_of(alloc, copy_part(alloc, side)?),
-        Passed::Pointer(h) => copy_sum(alloc, &h.at),
+        } => sum_of(alloc, copied_part(alloc, side)?),
+        Passed::Pointer(h) => copied_sum(alloc, &h.at),
     }
 }
 
@@ -178,11 +176,11 @@ pub(crate) fn passed_argument(alloc: Global, passed: &Passed) -> Result<Argument
             side: _,
         } => Ok(Argument {
             scalar: *scalar,
-            value: copy_form(alloc, form.get())?,
+            value: boxed_copy(alloc, form.get())?,
         }),
         Passed::Pointer(h) => Ok(Argument {
             scalar: Scalar::Pointer { size: 0 },
-            value: copy_form(alloc, h.form.get())?,
+            value: boxed_copy(alloc, h.form.get())?,
         }),
     }
 }
@@ -202,7 +200,7 @@ pub(crate) fn passed_arguments(
 }
 
 /// Asks for the coercion of a pointer that is handed to this type.
-#[tactic(auto, unfolding(deputy_types::specs::Deriving::bind))]
+#[tactic(auto, unfolding(deputy_rules::specs::Deriving::bind))]
 fn coerce_shape(
     alloc: Global,
     ctx: &Context<'_>,
@@ -210,13 +208,13 @@ fn coerce_shape(
     shape: &Shape,
     h: &Handed,
     asked: &mut Items<Asked>,
-) -> Result<Ids, Refusal>
+) -> Result<Ids, DerivingRefusal>
     ensures { Derives (spec.coerce_shape ctx.now naming.now shape.now h.now asked.old) result asked.new }
 {
     match shape {
         Shape::Pointer { elem, bounds } => match ctx.types.element_at(*elem) {
             Some(key) => coerce_to(alloc, ctx, naming, key, bounds, h, asked),
-            None => Err(Refusal::NoRule),
+            None => Err(DerivingRefusal::NoRule),
         },
         Shape::Int(_) => Ok(Items::new(alloc)),
         Shape::Struct(_) => Ok(Items::new(alloc)),
@@ -225,7 +223,7 @@ fn coerce_shape(
 }
 
 /// Asks for the coercion of a value that is handed to this type. An integer needs no check.
-#[tactic(auto, unfolding(deputy_types::specs::Calls::coerce_value))]
+#[tactic(auto, unfolding(deputy_rules::specs::Calls::coerce_value))]
 pub(crate) fn coerce_value(
     alloc: Global,
     ctx: &Context<'_>,
@@ -233,7 +231,7 @@ pub(crate) fn coerce_value(
     shape: &Shape,
     passed: &Passed,
     asked: &mut Items<Asked>,
-) -> Result<Ids, Refusal>
+) -> Result<Ids, DerivingRefusal>
     ensures { Derives (spec.coerce_value ctx.now naming.now shape.now passed.now asked.old) result asked.new }
 {
     match passed {
@@ -254,7 +252,7 @@ fn coerce_passed(
     shape: &Option<Shape>,
     passed: &Passed,
     asked: &mut Items<Asked>,
-) -> Result<Ids, Refusal>
+) -> Result<Ids, DerivingRefusal>
     ensures { Derives (spec.coerce_passed ctx.now naming.now shape.now passed.now asked.old) result asked.new }
 {
     match shape {
@@ -264,7 +262,7 @@ fn coerce_passed(
 }
 
 /// Asks for the coercions to the parameters' types in order.
-#[tactic(auto, unfolding(deputy_types::specs::Deriving::bind))]
+#[tactic(auto, unfolding(deputy_rules::specs::Deriving::bind))]
 pub(crate) fn coerce_each(
     alloc: Global,
     ctx: &Context<'_>,
@@ -272,7 +270,7 @@ pub(crate) fn coerce_each(
     params: &[Option<Shape>],
     args: &[Passed],
     asked: &mut Items<Asked>,
-) -> Result<Ids, Refusal>
+) -> Result<Ids, DerivingRefusal>
     ensures { Derives (spec.coerce_each ctx.now naming.now params.now args.now [] asked.old) result asked.new }
 {
     let mut ids = Items::new(alloc);

@@ -1,11 +1,11 @@
 //! `l = e` for a local or parameter: the coercion of e to its type, with the present values of the names, and the coercion of each sibling whose type names it.
 ghost use Rattle.std.specs.Prelude.{true, false};
-ghost use Rattle.deputy_types.specs.Assignment as spec;
-ghost use Rattle.deputy_types.specs.Coercion as coercion;
-ghost use Rattle.deputy_types.specs.Context.{slot_shape};
-ghost use Rattle.deputy_types.specs.Deriving.{Derives, bind, lift};
-ghost use Rattle.deputy_types.specs.Values.{integer_of as integer_in};
-ghost use Rattle.rules_stmt.specs.Fits.{Fits};
+ghost use Rattle.deputy_rules.specs.Assignment as spec;
+ghost use Rattle.deputy_rules.specs.Coercion as coercion;
+ghost use Rattle.deputy_rules.specs.Context.{slot_shape};
+ghost use Rattle.deputy_rules.specs.Deriving.{Derives, bind, lift};
+ghost use Rattle.deputy_rules.specs.Values.{integer_of as integer_in};
+ghost use Rattle.rules_stmt.specs.AreFewSlots.{AreFewSlots};
 
 use crate::changes::slot_changes;
 use crate::coerce::coerce_to;
@@ -13,13 +13,14 @@ use crate::convert::{converted_side, handed};
 use crate::store::store;
 use c_tree::Expr;
 use checked_tree::{Bounds, CheckedStmt, PointerOperand, Scalar, Shape};
-use deputy_types::{Asked, Derived, Element, Handed, Refusal, Whole};
+use deputy_rules::{Asked, Derived, DerivingRefusal, Handed, Whole};
+use deputy_types::Element;
 use rules_expr::{Context, derive, integer_of, of_slots, sum_of};
 use sqlite_items::Items;
 use std::alloc::Global;
 
 /// To an integer local.
-#[tactic(auto, unfolding(deputy_types::specs::Deriving::bind, deputy_types::specs::Assignment::assign_integer))]
+#[tactic(auto, unfolding(deputy_rules::specs::Deriving::bind, deputy_rules::specs::Assignment::assign_integer))]
 fn assign_integer(
     alloc: Global,
     ctx: &Context<'_>,
@@ -27,8 +28,8 @@ fn assign_integer(
     scalar: Scalar,
     w: Whole,
     asked: &mut Items<Asked>,
-) -> Result<CheckedStmt, Refusal>
-    requires { Fits ctx.now.table ctx.now.slots }
+) -> Result<CheckedStmt, DerivingRefusal>
+    requires { AreFewSlots ctx.now.table ctx.now.slots }
     ensures { Derives (spec.assign_integer ctx.now slot scalar w asked.old) result asked.new }
 {
     let new = sum_of(alloc, converted_side(alloc, scalar, &w)?)?;
@@ -43,7 +44,7 @@ fn assign_integer(
 }
 
 /// To what was derived as an integer.
-#[tactic(auto, unfolding(deputy_types::specs::Deriving::bind))]
+#[tactic(auto, unfolding(deputy_rules::specs::Deriving::bind))]
 fn assign_number(
     alloc: Global,
     ctx: &Context<'_>,
@@ -51,8 +52,8 @@ fn assign_number(
     scalar: Scalar,
     value: Derived,
     asked: &mut Items<Asked>,
-) -> Result<CheckedStmt, Refusal>
-    requires { Fits ctx.now.table ctx.now.slots }
+) -> Result<CheckedStmt, DerivingRefusal>
+    requires { AreFewSlots ctx.now.table ctx.now.slots }
     ensures { Derives (bind (lift (integer_in ctx.now value)) (spec.assign_integer ctx.now slot scalar) asked.old) result asked.new }
 {
     let w = integer_of(alloc, ctx, value)?;
@@ -60,19 +61,19 @@ fn assign_number(
 }
 
 /// To a pointer local that takes its bounds with it, the first of them in the slot `hidden`.
-#[tactic(auto, unfolding(deputy_types::specs::Deriving::bind, deputy_types::specs::Assignment::assign_automatic))]
+#[tactic(auto, unfolding(deputy_rules::specs::Deriving::bind, deputy_rules::specs::Assignment::assign_automatic))]
 fn assign_automatic(
     alloc: Global,
     ctx: &Context<'_>,
     slot: u32,
     h: Handed,
     asked: &mut Items<Asked>,
-) -> Result<CheckedStmt, Refusal>
-    requires { Fits ctx.now.table ctx.now.slots }
+) -> Result<CheckedStmt, DerivingRefusal>
+    requires { AreFewSlots ctx.now.table ctx.now.slots }
     ensures { Derives (spec.assign_automatic ctx.now slot h asked.old) result asked.new }
 {
     let Some(hidden) = ctx.locals.hidden(slot) else {
-        return Err(Refusal::NoRule);
+        return Err(DerivingRefusal::NoRule);
     };
     let checks = slot_changes(alloc, ctx, slot, h.at, asked)?;
     Ok(CheckedStmt::AssignAutomatic {
@@ -89,7 +90,7 @@ fn assign_automatic(
 }
 
 /// To a pointer local or parameter with an annotation.
-#[tactic(auto, unfolding(deputy_types::specs::Deriving::bind, deputy_types::specs::Assignment::assign_annotated))]
+#[tactic(auto, unfolding(deputy_rules::specs::Deriving::bind, deputy_rules::specs::Assignment::assign_annotated))]
 fn assign_annotated(
     alloc: Global,
     ctx: &Context<'_>,
@@ -98,8 +99,8 @@ fn assign_annotated(
     bounds: &Bounds,
     h: Handed,
     asked: &mut Items<Asked>,
-) -> Result<CheckedStmt, Refusal>
-    requires { Fits ctx.now.table ctx.now.slots }
+) -> Result<CheckedStmt, DerivingRefusal>
+    requires { AreFewSlots ctx.now.table ctx.now.slots }
     ensures { Derives (spec.assign_annotated ctx.now slot key bounds.now h asked.old) result asked.new }
 {
     let mut checks = coerce_to(alloc, ctx, &of_slots(), key, bounds, &h, asked)?;
@@ -114,7 +115,7 @@ fn assign_annotated(
 }
 
 /// To a pointer local that takes its bounds with it, what was derived.
-#[tactic(auto, unfolding(deputy_types::specs::Deriving::bind))]
+#[tactic(auto, unfolding(deputy_rules::specs::Deriving::bind))]
 fn assign_hidden(
     alloc: Global,
     ctx: &Context<'_>,
@@ -122,8 +123,8 @@ fn assign_hidden(
     key: Element,
     value: Derived,
     asked: &mut Items<Asked>,
-) -> Result<CheckedStmt, Refusal>
-    requires { Fits ctx.now.table ctx.now.slots }
+) -> Result<CheckedStmt, DerivingRefusal>
+    requires { AreFewSlots ctx.now.table ctx.now.slots }
     ensures { Derives (bind (lift (coercion.handed ctx.now key false value)) (spec.assign_automatic ctx.now slot) asked.old) result asked.new }
 {
     let h = handed(alloc, ctx, key, false, value)?;
@@ -131,7 +132,7 @@ fn assign_hidden(
 }
 
 /// To a pointer local or parameter with an annotation, nullterm or not, what was derived.
-#[tactic(auto, unfolding(deputy_types::specs::Deriving::bind))]
+#[tactic(auto, unfolding(deputy_rules::specs::Deriving::bind))]
 fn assign_bounded(
     alloc: Global,
     ctx: &Context<'_>,
@@ -141,8 +142,8 @@ fn assign_bounded(
     nullterm: bool,
     value: Derived,
     asked: &mut Items<Asked>,
-) -> Result<CheckedStmt, Refusal>
-    requires { Fits ctx.now.table ctx.now.slots }
+) -> Result<CheckedStmt, DerivingRefusal>
+    requires { AreFewSlots ctx.now.table ctx.now.slots }
     ensures { Derives (bind (lift (coercion.handed ctx.now key nullterm value)) (spec.assign_annotated ctx.now slot key bounds.now) asked.old) result asked.new }
 {
     let h = handed(alloc, ctx, key, nullterm, value)?;
@@ -150,7 +151,7 @@ fn assign_bounded(
 }
 
 /// To a pointer local or parameter.
-#[tactic(auto, unfolding(deputy_types::specs::Assignment::assign_pointer))]
+#[tactic(auto, unfolding(deputy_rules::specs::Assignment::assign_pointer))]
 fn assign_pointer(
     alloc: Global,
     ctx: &Context<'_>,
@@ -159,8 +160,8 @@ fn assign_pointer(
     bounds: &Bounds,
     value: Derived,
     asked: &mut Items<Asked>,
-) -> Result<CheckedStmt, Refusal>
-    requires { Fits ctx.now.table ctx.now.slots }
+) -> Result<CheckedStmt, DerivingRefusal>
+    requires { AreFewSlots ctx.now.table ctx.now.slots }
     ensures { Derives (spec.assign_pointer ctx.now slot key bounds.now value asked.old) result asked.new }
 {
     match bounds {
@@ -173,7 +174,7 @@ fn assign_pointer(
 }
 
 /// To a local or parameter of this shape.
-#[tactic(auto, unfolding(deputy_types::specs::Deriving::bind, deputy_types::specs::Assignment::assign_local))]
+#[tactic(auto, unfolding(deputy_rules::specs::Deriving::bind, deputy_rules::specs::Assignment::assign_local))]
 fn assign_local(
     alloc: Global,
     ctx: &Context<'_>,
@@ -181,71 +182,71 @@ fn assign_local(
     value: Derived,
     shape: &Shape,
     asked: &mut Items<Asked>,
-) -> Result<CheckedStmt, Refusal>
-    requires { Fits ctx.now.table ctx.now.slots }
+) -> Result<CheckedStmt, DerivingRefusal>
+    requires { AreFewSlots ctx.now.table ctx.now.slots }
     ensures { Derives (spec.assign_local ctx.now slot value shape.now asked.old) result asked.new }
 {
     match shape {
         Shape::Int(scalar) => assign_number(alloc, ctx, slot, *scalar, value, asked),
         Shape::Pointer { elem, bounds } => match ctx.types.element_at(*elem) {
             Some(key) => assign_pointer(alloc, ctx, slot, key, bounds, value, asked),
-            None => Err(Refusal::NoRule),
+            None => Err(DerivingRefusal::NoRule),
         },
-        Shape::Struct(_) => Err(Refusal::NoRule),
-        Shape::Address => Err(Refusal::NoRule),
+        Shape::Struct(_) => Err(DerivingRefusal::NoRule),
+        Shape::Address => Err(DerivingRefusal::NoRule),
     }
 }
 
 /// To a local or parameter.
-#[tactic(auto, unfolding(deputy_types::specs::Deriving::bind))]
+#[tactic(auto, unfolding(deputy_rules::specs::Deriving::bind))]
 fn assign_slot(
     alloc: Global,
     ctx: &Context<'_>,
     slot: u32,
     value: Derived,
     asked: &mut Items<Asked>,
-) -> Result<CheckedStmt, Refusal>
-    requires { Fits ctx.now.table ctx.now.slots }
+) -> Result<CheckedStmt, DerivingRefusal>
+    requires { AreFewSlots ctx.now.table ctx.now.slots }
     ensures { Derives (bind (lift (slot_shape ctx.now slot)) (spec.assign_local ctx.now slot value) asked.old) result asked.new }
 {
     match ctx.slot_shape(slot) {
         Some(shape) => assign_local(alloc, ctx, slot, value, shape, asked),
-        None => Err(Refusal::NoRule),
+        None => Err(DerivingRefusal::NoRule),
     }
 }
 
 /// To what was derived.
-#[tactic(auto, unfolding(deputy_types::specs::Assignment::assign_to))]
+#[tactic(auto, unfolding(deputy_rules::specs::Assignment::assign_to))]
 fn assign_to(
     alloc: Global,
     ctx: &Context<'_>,
     value: Derived,
     target: Derived,
     asked: &mut Items<Asked>,
-) -> Result<CheckedStmt, Refusal>
-    requires { Fits ctx.now.table ctx.now.slots }
+) -> Result<CheckedStmt, DerivingRefusal>
+    requires { AreFewSlots ctx.now.table ctx.now.slots }
     ensures { Derives (spec.assign_to ctx.now value target asked.old) result asked.new }
 {
     match target {
         Derived::Local(slot) => assign_slot(alloc, ctx, slot, value, asked),
         Derived::Place(place) => store(alloc, ctx, place, value, asked),
-        Derived::Value(_) => Err(Refusal::NoRule),
-        Derived::Array(_) => Err(Refusal::NoRule),
-        Derived::Union(_) => Err(Refusal::NoRule),
+        Derived::Value(_) => Err(DerivingRefusal::NoRule),
+        Derived::Array(_) => Err(DerivingRefusal::NoRule),
+        Derived::Union(_) => Err(DerivingRefusal::NoRule),
     }
 }
 
 /// `l = e`: the checks of e, those of l's place, that a terminator stays, the coercion of e to l's type with the present values of the names, the coercion of each
 /// sibling whose type names l, and that a tag's union is clear. No rule where l is no integer or pointer local or place, or e has no such type.
-#[tactic(auto, unfolding(deputy_types::specs::Deriving::bind, deputy_types::specs::Assignment::assign))]
+#[tactic(auto, unfolding(deputy_rules::specs::Deriving::bind, deputy_rules::specs::Assignment::assign))]
 pub(crate) fn assign(
     alloc: Global,
     ctx: &Context<'_>,
     l: &Expr,
     e: &Expr,
     asked: &mut Items<Asked>,
-) -> Result<CheckedStmt, Refusal>
-    requires { Fits ctx.now.table ctx.now.slots }
+) -> Result<CheckedStmt, DerivingRefusal>
+    requires { AreFewSlots ctx.now.table ctx.now.slots }
     ensures { Derives (spec.assign ctx.now l.now e.now asked.old) result asked.new }
 {
     let value = derive(alloc, ctx, e, asked)?;

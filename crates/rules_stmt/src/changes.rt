@@ -1,19 +1,18 @@
 //! What an assignment changes in the types of its siblings (Hoare's axiom of assignment): each pointer whose annotation names the assigned slot or member has to
 //! fit its own type with the new value in the name's place. All its checks have the kind `Change`.
 ghost use Rattle.std.specs.Prelude.{◌≡◌, ◌<◌, ◌^◌, length, if◌then◌else◌, map, IfOk, [], ◌∷◌};
-ghost use Rattle.deputy_types.specs.Changes as spec;
-ghost use Rattle.deputy_types.specs.Deriving.{Derives, bind, lift};
+ghost use Rattle.deputy_rules.specs.Changes as spec;
+ghost use Rattle.deputy_rules.specs.Deriving.{Derives, bind, lift};
 ghost use Rattle.deputy_types.specs.Table as table;
-ghost use Rattle.rules_stmt.specs.Fits.{Fits};
+ghost use Rattle.rules_stmt.specs.AreFewSlots.{AreFewSlots};
 
 use crate::coerce::{Fit, coerce};
-use checked_tree::{Bounds, CheckedExpr, Member, Part, Scalar, Shape, Sum, UnionShape};
-use deputy_types::{
-    Asked, AskedCond, Change, Element, Names, Naming, Place, Refusal, TypeTable, bounds_name,
-};
+use checked_tree::{Bounds, CheckedExpr, Member, Part, Scalar, Shape, Sum, UnionShape, copied_sum};
+use deputy_rules::{Asked, AskedCond, Change, DerivingRefusal, Names, Naming, Place};
+use deputy_types::{Element, TypeTable, bounds_name};
 use rules_expr::{
-    Context, Ids, ask, atom_part, beyond, container, copy_form, copy_sum, high_sum, load_form,
-    low_sum, name_sum, one, with_part,
+    Context, Ids, ask, atom_part, beyond, boxed_copy, container, high_sum, load_form, low_sum,
+    name_sum, one, with_part,
 };
 use sd_base::CheckKind;
 use sqlite_items::{Boxed, Items, at};
@@ -59,13 +58,13 @@ fn change_at(
     key: Element,
     at: Sum,
     asked: &mut Items<Asked>,
-) -> Result<Ids, Refusal>
+) -> Result<Ids, DerivingRefusal>
     ensures { Derives (spec.change_at ctx.now update.now.before update.now.after bounds.now key at asked.old) result asked.new }
 {
-    let low = low_sum(alloc, ctx, &update.before, copy_sum(alloc, &at)?, bounds)?;
-    let high = high_sum(alloc, ctx, &update.before, copy_sum(alloc, &at)?, bounds)?;
-    let lower = low_sum(alloc, ctx, &update.after, copy_sum(alloc, &at)?, bounds)?;
-    let higher = high_sum(alloc, ctx, &update.after, copy_sum(alloc, &at)?, bounds)?;
+    let low = low_sum(alloc, ctx, &update.before, copied_sum(alloc, &at)?, bounds)?;
+    let high = high_sum(alloc, ctx, &update.before, copied_sum(alloc, &at)?, bounds)?;
+    let lower = low_sum(alloc, ctx, &update.after, copied_sum(alloc, &at)?, bounds)?;
+    let higher = high_sum(alloc, ctx, &update.after, copied_sum(alloc, &at)?, bounds)?;
     let fit = Fit {
         at,
         low,
@@ -79,7 +78,7 @@ fn change_at(
 }
 
 /// The same for the sibling with number `i`.
-#[tactic(auto, unfolding(deputy_types::specs::Changes::pointer_change))]
+#[tactic(auto, unfolding(deputy_rules::specs::Changes::pointer_change))]
 fn pointer_change(
     alloc: Global,
     ctx: &Context<'_>,
@@ -88,7 +87,7 @@ fn pointer_change(
     bounds: &Bounds,
     key: Element,
     asked: &mut Items<Asked>,
-) -> Result<Ids, Refusal>
+) -> Result<Ids, DerivingRefusal>
     ensures { Derives (spec.pointer_change ctx.now update.now.before update.now.after i bounds.now key asked.old) result asked.new }
 {
     let at = name_sum(alloc, ctx, &update.before, i)?;
@@ -96,7 +95,7 @@ fn pointer_change(
 }
 
 /// The same for a pointer to the element with number `elem`.
-#[tactic(auto, unfolding(deputy_types::specs::Deriving::bind))]
+#[tactic(auto, unfolding(deputy_rules::specs::Deriving::bind))]
 fn elem_change(
     alloc: Global,
     ctx: &Context<'_>,
@@ -105,19 +104,19 @@ fn elem_change(
     elem: u32,
     bounds: &Bounds,
     asked: &mut Items<Asked>,
-) -> Result<Ids, Refusal>
+) -> Result<Ids, DerivingRefusal>
     ensures { Derives
         (bind (lift (table.element_at ctx.now.table elem)) (spec.pointer_change ctx.now update.now.before update.now.after i bounds.now) asked.old)
         result asked.new }
 {
     match ctx.types.element_at(elem) {
         Some(key) => pointer_change(alloc, ctx, update, i, bounds, key, asked),
-        None => Err(Refusal::NoRule),
+        None => Err(DerivingRefusal::NoRule),
     }
 }
 
 /// The same where the annotation names whose value is new.
-#[tactic(auto, unfolding(deputy_types::specs::Changes::sibling_change))]
+#[tactic(auto, unfolding(deputy_rules::specs::Changes::sibling_change))]
 fn sibling_change(
     alloc: Global,
     ctx: &Context<'_>,
@@ -125,7 +124,7 @@ fn sibling_change(
     i: u32,
     shape: &Shape,
     asked: &mut Items<Asked>,
-) -> Result<Ids, Refusal>
+) -> Result<Ids, DerivingRefusal>
     ensures { Derives (spec.sibling_change ctx.now update.now.before update.now.after update.now.name i shape.now asked.old) result asked.new }
 {
     match shape {
@@ -150,7 +149,7 @@ fn optional_change(
     i: u32,
     shape: &Option<Shape>,
     asked: &mut Items<Asked>,
-) -> Result<Ids, Refusal>
+) -> Result<Ids, DerivingRefusal>
     ensures { Derives (spec.optional_change ctx.now update.now.before update.now.after update.now.name i shape.now asked.old) result asked.new }
 {
     match shape {
@@ -160,14 +159,14 @@ fn optional_change(
 }
 
 /// The checks of all slots, in the order of their declarations.
-#[tactic(auto, unfolding(deputy_types::specs::Deriving::bind))]
+#[tactic(auto, unfolding(deputy_rules::specs::Deriving::bind))]
 fn each_slot(
     alloc: Global,
     ctx: &Context<'_>,
     update: &Update,
     shapes: &[Option<Shape>],
     asked: &mut Items<Asked>,
-) -> Result<Ids, Refusal>
+) -> Result<Ids, DerivingRefusal>
     requires { length shapes.now < 2 ^ 32 }
     ensures { Derives (spec.sibling_changes ctx.now update.now.before update.now.after update.now.name 0 shapes.now [] asked.old) result asked.new }
 {
@@ -179,14 +178,14 @@ fn each_slot(
 }
 
 /// The checks of all members of a struct, in the order of their declarations.
-#[tactic(auto, unfolding(deputy_types::specs::Deriving::bind))]
+#[tactic(auto, unfolding(deputy_rules::specs::Deriving::bind))]
 fn each_member(
     alloc: Global,
     ctx: &Context<'_>,
     update: &Update,
     members: &[Member],
     asked: &mut Items<Asked>,
-) -> Result<Ids, Refusal>
+) -> Result<Ids, DerivingRefusal>
     requires { length members.now < 2 ^ 32 }
     ensures { Derives (spec.sibling_changes ctx.now update.now.before update.now.after update.now.name 0 (map spec.shape_of members.now) [] asked.old) result asked.new }
 {
@@ -198,15 +197,15 @@ fn each_member(
 }
 
 /// Asks for the checks of the siblings of a slot that has a new value.
-#[tactic(auto, unfolding(deputy_types::specs::Changes::slot_changes))]
+#[tactic(auto, unfolding(deputy_rules::specs::Changes::slot_changes))]
 pub(crate) fn slot_changes(
     alloc: Global,
     ctx: &Context<'_>,
     slot: u32,
     new: Sum,
     asked: &mut Items<Asked>,
-) -> Result<Ids, Refusal>
-    requires { Fits ctx.now.table ctx.now.slots }
+) -> Result<Ids, DerivingRefusal>
+    requires { AreFewSlots ctx.now.table ctx.now.slots }
     ensures { Derives (spec.slot_changes ctx.now slot new asked.old) result asked.new }
 {
     let update = Update {
@@ -239,7 +238,7 @@ pub(crate) fn struct_names(
 }
 
 /// Asks for the checks of the siblings of a member that has a new value.
-#[tactic(auto, unfolding(deputy_types::specs::Changes::member_changes))]
+#[tactic(auto, unfolding(deputy_rules::specs::Changes::member_changes))]
 pub(crate) fn member_changes(
     alloc: Global,
     ctx: &Context<'_>,
@@ -248,8 +247,8 @@ pub(crate) fn member_changes(
     member: u32,
     new: Sum,
     asked: &mut Items<Asked>,
-) -> Result<Ids, Refusal>
-    requires { Fits ctx.now.table ctx.now.slots }
+) -> Result<Ids, DerivingRefusal>
+    requires { AreFewSlots ctx.now.table ctx.now.slots }
     ensures { Derives (spec.member_changes ctx.now place.now structure member new asked.old) result asked.new }
 {
     let update = Update {

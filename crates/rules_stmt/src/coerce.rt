@@ -1,13 +1,14 @@
 //! Coercions: the checks that the bounds of a pointer need where a type takes it.
-ghost use Rattle.deputy_types.specs.Coercion as spec;
-ghost use Rattle.deputy_types.specs.Deriving as asking;
-ghost use Rattle.deputy_types.specs.Deriving.{Derives};
-ghost use Rattle.deputy_types.specs.declared.asked.AskedCond.TheVariants as cond;
-ghost use Rattle.deputy_types.specs.Values as values;
+ghost use Rattle.deputy_rules.specs.Coercion as spec;
+ghost use Rattle.deputy_rules.specs.Deriving as asking;
+ghost use Rattle.deputy_rules.specs.Deriving.{Derives};
+ghost use Rattle.deputy_rules.specs.declared.asked.AskedCond.TheVariants as cond;
+ghost use Rattle.deputy_rules.specs.Values as values;
 
-use checked_tree::{Bounds, Part, Sum};
-use deputy_types::{Asked, AskedCond, Element, Handed, Naming, Refusal};
-use rules_expr::{Context, Ids, ask, copy_sum, high_sum, low_sum, one, with_part};
+use checked_tree::{Bounds, Part, Sum, copied_sum};
+use deputy_rules::{Asked, AskedCond, DerivingRefusal, Handed, Naming};
+use deputy_types::Element;
+use rules_expr::{Context, Ids, ask, high_sum, low_sum, one, with_part};
 use sd_base::CheckKind;
 use sqlite_items::Items;
 use std::alloc::Global;
@@ -36,12 +37,12 @@ fn ask_guarded(
     right: &Sum,
     guard: &Sum,
     asked: &mut Items<Asked>,
-) -> Result<usize, Refusal>
+) -> Result<usize, DerivingRefusal>
     ensures { Derives (asking.ask ctx.now kind (cond.Guarded left.now right.now guard.now) asked.old) result asked.new }
 {
-    let left = copy_sum(alloc, left)?;
-    let right = copy_sum(alloc, right)?;
-    let guard = copy_sum(alloc, guard)?;
+    let left = copied_sum(alloc, left)?;
+    let right = copied_sum(alloc, right)?;
+    let guard = copied_sum(alloc, guard)?;
     ask(ctx, kind, AskedCond::Guarded { left, right, guard }, asked)
 }
 
@@ -54,12 +55,12 @@ fn ask_multiple(
     low: &Sum,
     size: u32,
     asked: &mut Items<Asked>,
-) -> Result<usize, Refusal>
+) -> Result<usize, DerivingRefusal>
     ensures { Derives (asking.ask ctx.now kind (cond.Aligned at.now low.now size at.now) asked.old) result asked.new }
 {
-    let value = copy_sum(alloc, at)?;
-    let low = copy_sum(alloc, low)?;
-    let guard = copy_sum(alloc, at)?;
+    let value = copied_sum(alloc, at)?;
+    let low = copied_sum(alloc, low)?;
+    let guard = copied_sum(alloc, at)?;
     let aligned = AskedCond::Aligned {
         value,
         low,
@@ -70,7 +71,7 @@ fn ask_multiple(
 }
 
 /// Asks that a pointer stands at a whole number of elements past its low bound, which an element of one byte always does.
-#[tactic(auto, unfolding(deputy_types::specs::Deriving::bind, deputy_types::specs::Coercion::ask_aligned))]
+#[tactic(auto, unfolding(deputy_rules::specs::Deriving::bind, deputy_rules::specs::Coercion::ask_aligned))]
 fn ask_aligned(
     alloc: Global,
     ctx: &Context<'_>,
@@ -79,7 +80,7 @@ fn ask_aligned(
     low: &Sum,
     size: u32,
     asked: &mut Items<Asked>,
-) -> Result<Ids, Refusal>
+) -> Result<Ids, DerivingRefusal>
     ensures { Derives (spec.ask_aligned ctx.now kind at.now low.now size asked.old) result asked.new }
 {
     if 1 < size {
@@ -91,7 +92,7 @@ fn ask_aligned(
 }
 
 /// Asks for the five checks of a coercion, each of which passes where the pointer is null. The first four have the one kind, the fifth the other.
-#[tactic(auto, unfolding(deputy_types::specs::Deriving::bind, deputy_types::specs::Coercion::coerce))]
+#[tactic(auto, unfolding(deputy_rules::specs::Deriving::bind, deputy_rules::specs::Coercion::coerce))]
 pub(crate) fn coerce(
     alloc: Global,
     ctx: &Context<'_>,
@@ -99,7 +100,7 @@ pub(crate) fn coerce(
     align: CheckKind,
     fit: &Fit,
     asked: &mut Items<Asked>,
-) -> Result<Ids, Refusal>
+) -> Result<Ids, DerivingRefusal>
     ensures { Derives (spec.coerce ctx.now kind align fit.now.at fit.now.low fit.now.high fit.now.lower fit.now.higher fit.now.size asked.old) result asked.new }
 {
     let mut ids = Items::new(alloc);
@@ -112,7 +113,7 @@ pub(crate) fn coerce(
 }
 
 /// Asks for the coercion of what is handed over to a pointer type with these bounds. The null constant needs no check.
-#[tactic(auto, unfolding(deputy_types::specs::Coercion::coerce_within))]
+#[tactic(auto, unfolding(deputy_rules::specs::Coercion::coerce_within))]
 fn coerce_within(
     alloc: Global,
     ctx: &Context<'_>,
@@ -121,16 +122,16 @@ fn coerce_within(
     higher: Sum,
     size: u32,
     asked: &mut Items<Asked>,
-) -> Result<Ids, Refusal>
+) -> Result<Ids, DerivingRefusal>
     ensures { Derives (spec.coerce_within ctx.now h.now lower higher size asked.old) result asked.new }
 {
     if h.null {
         return Ok(Items::new(alloc));
     }
     let fit = Fit {
-        at: copy_sum(alloc, &h.at)?,
-        low: copy_sum(alloc, &h.low)?,
-        high: copy_sum(alloc, &h.high)?,
+        at: copied_sum(alloc, &h.at)?,
+        low: copied_sum(alloc, &h.low)?,
+        high: copied_sum(alloc, &h.high)?,
         lower,
         higher,
         size,
@@ -139,7 +140,7 @@ fn coerce_within(
 }
 
 /// Asks for the coercion to a pointer type whose annotation bounds it.
-#[tactic(auto, unfolding(deputy_types::specs::Coercion::coerce_to))]
+#[tactic(auto, unfolding(deputy_rules::specs::Coercion::coerce_to))]
 fn coerce_bounded(
     alloc: Global,
     ctx: &Context<'_>,
@@ -148,18 +149,18 @@ fn coerce_bounded(
     bounds: &Bounds,
     h: &Handed,
     asked: &mut Items<Asked>,
-) -> Result<Ids, Refusal>
+) -> Result<Ids, DerivingRefusal>
     ensures { Derives
         (spec.coerce_within ctx.now h.now (values.low_sum ctx.now naming.now h.now.at bounds.now) (values.high_sum ctx.now naming.now h.now.at bounds.now) (values.size_of ctx.now key) asked.old)
         result asked.new }
 {
-    let lower = low_sum(alloc, ctx, naming, copy_sum(alloc, &h.at)?, bounds)?;
-    let higher = high_sum(alloc, ctx, naming, copy_sum(alloc, &h.at)?, bounds)?;
+    let lower = low_sum(alloc, ctx, naming, copied_sum(alloc, &h.at)?, bounds)?;
+    let higher = high_sum(alloc, ctx, naming, copied_sum(alloc, &h.at)?, bounds)?;
     coerce_within(alloc, ctx, h, lower, higher, ctx.size_of(key), asked)
 }
 
 /// Asks for the coercion to a pointer type with this element and annotation. A nullterm pointer, and one that takes its bounds with it, needs no check.
-#[tactic(auto, unfolding(deputy_types::specs::Coercion::coerce_to))]
+#[tactic(auto, unfolding(deputy_rules::specs::Coercion::coerce_to))]
 pub(crate) fn coerce_to(
     alloc: Global,
     ctx: &Context<'_>,
@@ -168,7 +169,7 @@ pub(crate) fn coerce_to(
     bounds: &Bounds,
     h: &Handed,
     asked: &mut Items<Asked>,
-) -> Result<Ids, Refusal>
+) -> Result<Ids, DerivingRefusal>
     ensures { Derives (spec.coerce_to ctx.now naming.now key bounds.now h.now asked.old) result asked.new }
 {
     match bounds {
@@ -181,7 +182,7 @@ pub(crate) fn coerce_to(
 }
 
 /// Asks for the coercion to a pointer type with a constant annotation that lets it reach so many elements.
-#[tactic(auto, unfolding(deputy_types::specs::Coercion::coerce_counted))]
+#[tactic(auto, unfolding(deputy_rules::specs::Coercion::coerce_counted))]
 pub(crate) fn coerce_counted(
     alloc: Global,
     ctx: &Context<'_>,
@@ -189,7 +190,7 @@ pub(crate) fn coerce_counted(
     count: i64,
     h: &Handed,
     asked: &mut Items<Asked>,
-) -> Result<Ids, Refusal>
+) -> Result<Ids, DerivingRefusal>
     ensures { Derives (spec.coerce_counted ctx.now key count h.now asked.old) result asked.new }
 {
     let size = ctx.size_of(key);
@@ -197,7 +198,7 @@ pub(crate) fn coerce_counted(
         times: count,
         value: i64::from(size),
     };
-    let higher = with_part(copy_sum(alloc, &h.at)?, reach)?;
-    let lower = copy_sum(alloc, &h.at)?;
+    let higher = with_part(copied_sum(alloc, &h.at)?, reach)?;
+    let lower = copied_sum(alloc, &h.at)?;
     coerce_within(alloc, ctx, h, lower, higher, size, asked)
 }

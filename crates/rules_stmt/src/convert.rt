@@ -1,44 +1,25 @@
 //! Conversions: what a type makes of the expression that it is handed.
 ghost use Rattle.std.specs.Prelude.{◌≡◌, ◌&&◌, if◌then◌else◌, Some, None, IfOk};
-ghost use Rattle.deputy_types.specs.Coercion as spec;
-ghost use Rattle.deputy_types.specs.Deriving.{Gives};
-ghost use Rattle.deputy_types.specs.Operators.{same_truth};
-ghost use Rattle.deputy_types.specs.Pointers as pointers;
+ghost use Rattle.deputy_rules.specs.Coercion as spec;
+ghost use Rattle.deputy_rules.specs.Deriving.{Yields};
+ghost use Rattle.deputy_rules.specs.Operators.{same_truth};
+ghost use Rattle.deputy_rules.specs.Pointers as pointers;
 ghost use Rattle.deputy_types.specs.Types as types;
 
-use checked_tree::{CheckedExpr, Part, Scalar, Unary, converted};
-use deputy_types::{Derived, Element, Handed, Pointed, Refusal, Value, Whole};
+use checked_tree::{CheckedExpr, Part, Scalar, Unary, converted, has_all};
+use deputy_rules::{Derived, DerivingRefusal, Handed, Pointed, Value, Whole};
+use deputy_types::Element;
 use rules_expr::{
-    Context, atom_part, constant, constant_of, constant_part, copy_form, is_written, null_form,
+    Context, atom_part, boxed_copy, constant, constant_of, constant_part, is_written, null_form,
     same_element, unary_form, value_of,
 };
 use std::alloc::{AllocError, Global};
-
-/// Whether the first type has every value of the second.
-#[tactic(auto, unfolding(deputy_types::specs::Coercion::has_all))]
-fn has_all(to: Scalar, from: Scalar) -> bool
-    ensures { result ≡ spec.has_all to from }
-{
-    match to {
-        Scalar::U8 => matches!(from, Scalar::U8),
-        Scalar::I8 => matches!(from, Scalar::I8),
-        Scalar::U16 => matches!(from, Scalar::U8 | Scalar::U16),
-        Scalar::I16 => matches!(from, Scalar::U8 | Scalar::I8 | Scalar::I16),
-        Scalar::I32 => matches!(
-            from,
-            Scalar::U8 | Scalar::I8 | Scalar::U16 | Scalar::I16 | Scalar::I32
-        ),
-        Scalar::U32 => matches!(from, Scalar::U8 | Scalar::U16 | Scalar::U32),
-        Scalar::Void => false,
-        Scalar::Pointer { size: _ } => false,
-    }
-}
 
 /// The cast of an expression in a check.
 fn cast_part(alloc: Global, scalar: Scalar, form: &CheckedExpr) -> Result<Part, AllocError>
     ensures { IfOk result (λ p. p ≡ spec.cast_part scalar form.now) }
 {
-    let cast = unary_form(alloc, Unary::Cast, scalar, copy_form(alloc, form)?)?;
+    let cast = unary_form(alloc, Unary::Cast, scalar, boxed_copy(alloc, form)?)?;
     atom_part(alloc, cast.get())
 }
 
@@ -70,7 +51,7 @@ fn side_by(
 
 /// An integer expression in a check after its conversion to a type: the converted constant, the same expression where the type has each of its values, or else
 /// its cast. The only refusal is want of memory.
-#[tactic(auto, unfolding(deputy_types::specs::Coercion::converted_side))]
+#[tactic(auto, unfolding(deputy_rules::specs::Coercion::converted_side))]
 pub(crate) fn converted_side(alloc: Global, scalar: Scalar, w: &Whole) -> Result<Part, AllocError>
     ensures { IfOk result (λ p. p ≡ spec.converted_side scalar w.now) }
 {
@@ -95,13 +76,13 @@ pub(crate) fn null(alloc: Global) -> Result<Handed, AllocError>
 }
 
 /// The number 0 without suffix as the null constant. No rule where it is any other.
-pub(crate) fn null_number(alloc: Global, w: Whole) -> Result<Handed, Refusal>
-    ensures { Gives (if pointers.is_written 0 w.written then Some spec.null else None) result }
+pub(crate) fn null_number(alloc: Global, w: Whole) -> Result<Handed, DerivingRefusal>
+    ensures { Yields (if pointers.is_written 0 w.written then Some spec.null else None) result }
 {
     if is_written(0, w.written) {
         Ok(null(alloc)?)
     } else {
-        Err(Refusal::NoRule)
+        Err(DerivingRefusal::NoRule)
     }
 }
 
@@ -126,25 +107,25 @@ fn is_pointer_to(key: Element, nullterm: bool, p: &Pointed) -> bool
 }
 
 /// A pointer expression, where a pointer to this element is wanted.
-fn handed_pointer(key: Element, nullterm: bool, p: Pointed) -> Result<Handed, Refusal>
-    ensures { Gives (if types.same_element p.elem key && same_truth p.nullterm nullterm then Some (spec.handed_over p) else None) result }
+fn handed_pointer(key: Element, nullterm: bool, p: Pointed) -> Result<Handed, DerivingRefusal>
+    ensures { Yields (if types.same_element p.elem key && same_truth p.nullterm nullterm then Some (spec.handed_over p) else None) result }
 {
     if is_pointer_to(key, nullterm, &p) {
         Ok(handed_over(p))
     } else {
-        Err(Refusal::NoRule)
+        Err(DerivingRefusal::NoRule)
     }
 }
 
 /// A value where a pointer to this element is wanted.
-#[tactic(auto, unfolding(deputy_types::specs::Coercion::handed_value))]
+#[tactic(auto, unfolding(deputy_rules::specs::Coercion::handed_value))]
 fn handed_value(
     alloc: Global,
     key: Element,
     nullterm: bool,
     value: Value,
-) -> Result<Handed, Refusal>
-    ensures { Gives (spec.handed_value key nullterm value) result }
+) -> Result<Handed, DerivingRefusal>
+    ensures { Yields (spec.handed_value key nullterm value) result }
 {
     match value {
         Value::Null => Ok(null(alloc)?),
@@ -161,8 +142,8 @@ pub(crate) fn handed(
     key: Element,
     nullterm: bool,
     derived: Derived,
-) -> Result<Handed, Refusal>
-    ensures { Gives (spec.handed ctx.now key nullterm derived) result }
+) -> Result<Handed, DerivingRefusal>
+    ensures { Yields (spec.handed ctx.now key nullterm derived) result }
 {
     let value = value_of(alloc, ctx, derived)?;
     handed_value(alloc, key, nullterm, value)

@@ -1,17 +1,17 @@
 //! Which heads, parameters and locals stand, and the line of the first that does not.
 ghost use Rattle.std.specs.Prelude.{◌≡◌, ◌&&◌, ◌<◌, ◌^◌, length, Some, IfOk, is_some, option_copied};
-ghost use Rattle.deputy_types.specs.Agreement as agreement;
-ghost use Rattle.deputy_types.specs.Heads as spec;
+ghost use Rattle.deputy_rules.specs.Agreement as agreement;
+ghost use Rattle.deputy_rules.specs.Heads as spec;
 
-use crate::agreement::{agree, parameter_place};
+use crate::agreement::agree;
 use crate::declared::result_of;
-use crate::texts::Text;
+use crate::head_parameters::is_declared;
+use crate::texts::SeenText;
 use c_tree::{Function, Head, Local, Param};
-use checked_tree::Shape;
+use checked_tree::{Shape, kernel_named};
 use dep_infer::LocalTable;
-use deputy_types::{NameList, kernel_named};
+use deputy_types::NameList;
 use sd_base::{Memory, Name};
-use sqlite_items::at;
 use std::alloc::Global;
 
 /// Whether a head agrees with the first head of its name.
@@ -25,7 +25,7 @@ fn agrees_with(structs: &NameList, first: Option<&Head>, h: &Head) -> bool
 }
 
 /// Whether a result is derived, of a head that agrees with the first one of its name.
-fn agreed_stands(alloc: Global, text: &Text<'_>, h: &Head) -> Result<bool, Memory>
+fn agreed_stands(alloc: Global, text: &SeenText<'_>, h: &Head) -> Result<bool, Memory>
     ensures { IfOk result (λ b. b ≡ (spec.agrees_with text.now.table.types.structs (spec.first_head text.now.items h.now.name) h.now && is_some (spec.result_of text.now.table h.now))) }
 {
     if agrees_with(&text.table.types().structs, text.first_head(&h.name), h) {
@@ -40,8 +40,8 @@ fn agreed_stands(alloc: Global, text: &Text<'_>, h: &Head) -> Result<bool, Memor
 
 /// Whether a head stands: no kernel call and no global has its name, it agrees with the first head of its name, and its result is derived. The only refusal is want of
 /// memory.
-#[tactic(auto, unfolding(deputy_types::specs::Heads::head_stands))]
-pub(crate) fn head_stands(alloc: Global, text: &Text<'_>, h: &Head) -> Result<bool, Memory>
+#[tactic(auto, unfolding(deputy_rules::specs::Heads::head_stands))]
+pub(crate) fn head_stands(alloc: Global, text: &SeenText<'_>, h: &Head) -> Result<bool, Memory>
     ensures { IfOk result (λ b. b ≡ spec.head_stands text.now h.now) }
 {
     match kernel_named(&h.name) {
@@ -64,10 +64,10 @@ fn is_at(number: Option<u32>, k: usize) -> bool
 }
 
 /// Whether the head of the k-th function with a body stands: none before it has its name. The only refusal is want of memory.
-#[tactic(auto, unfolding(deputy_types::specs::Heads::function_stands))]
+#[tactic(auto, unfolding(deputy_rules::specs::Heads::function_stands))]
 pub(crate) fn function_stands(
     alloc: Global,
-    text: &Text<'_>,
+    text: &SeenText<'_>,
     k: usize,
     h: &Head,
 ) -> Result<bool, Memory>
@@ -80,19 +80,8 @@ pub(crate) fn function_stands(
     }
 }
 
-/// Whether the i-th shape is there.
-fn is_declared(shapes: &[Option<Shape>], i: usize) -> bool
-    ensures { result ≡ spec.is_declared shapes.now i }
-{
-    match at(shapes, i) {
-        Some(Some(_)) => true,
-        Some(None) => false,
-        None => false,
-    }
-}
-
 /// Whether the i-th parameter or local stands: it is the first that has its name, and its shape is derived.
-#[tactic(auto, unfolding(deputy_types::specs::Heads::declaration_stands))]
+#[tactic(auto, unfolding(deputy_rules::specs::Heads::declaration_stands))]
 fn declaration_stands(locals: &LocalTable, shapes: &[Option<Shape>], i: usize, name: &Name) -> bool
     ensures { result ≡ spec.declaration_stands locals.now shapes.now i name.now }
 {
@@ -130,7 +119,7 @@ fn wrong_local(
 }
 
 /// The line of the first parameter or local of a function that does not stand.
-#[tactic(auto, unfolding(deputy_types::specs::Heads::wrong_declaration))]
+#[tactic(auto, unfolding(deputy_rules::specs::Heads::wrong_declaration))]
 pub(crate) fn wrong_declaration(
     locals: &LocalTable,
     shapes: &[Option<Shape>],
@@ -144,47 +133,4 @@ pub(crate) fn wrong_declaration(
         Some(line) => Some(line),
         None => wrong_local(locals, shapes, params.len(), f.locals.as_slice()),
     }
-}
-
-/// Whether a parameter of a prototype stands likewise.
-#[tactic(auto, unfolding(deputy_types::specs::Heads::prototype_parameter_stands))]
-fn prototype_parameter_stands(
-    params: &[Param],
-    shapes: &[Option<Shape>],
-    i: usize,
-    name: &Name,
-) -> bool
-    ensures { result ≡ spec.prototype_parameter_stands params.now shapes.now i name.now }
-{
-    is_place(parameter_place(params, name), i) && is_declared(shapes, i)
-}
-
-/// Whether a place is this one.
-fn is_place(place: Option<usize>, i: usize) -> bool
-    ensures { result ≡ agreement.same_place place (Some i) }
-{
-    match place {
-        Some(k) => k == i,
-        None => false,
-    }
-}
-
-/// The line of the first parameter of a prototype that does not stand, by the shapes of its parameters.
-#[tactic(auto, unfolding(deputy_types::specs::Heads::wrong_in_prototype))]
-pub(crate) fn wrong_in_prototype(shapes: &[Option<Shape>], h: &Head) -> Option<u32>
-    ensures { result ≡ spec.wrong_in_prototype shapes.now h.now }
-{
-    wrong_prototype_parameter(h.params.as_slice(), shapes)
-}
-
-/// The same of its parameters.
-fn wrong_prototype_parameter(params: &[Param], shapes: &[Option<Shape>]) -> Option<u32>
-    ensures { result ≡ spec.wrong_prototype_parameter params.now shapes.now 0 params.now }
-{
-    for (i, param) in params.iter().enumerate() {
-        if !prototype_parameter_stands(params, shapes, i, &param.name) {
-            return Some(param.line);
-        }
-    }
-    None
 }

@@ -2,26 +2,28 @@
 ghost use Rattle.std.specs.Prelude.{◌≡◌, if◌then◌else◌, Some, None, [], ◌∷◌, option_copied};
 ghost use Rattle.checked_tree.specs.declared.statements.CheckedStmt.TheVariants as statement;
 ghost use Rattle.checked_tree.specs.declared.kernel.KernelName.TheVariants as kernel;
-ghost use Rattle.deputy_types.specs.declared.kernel_calls.ArgumentKind.TheVariants as argument;
-ghost use Rattle.deputy_types.specs.Calls as spec;
-ghost use Rattle.deputy_types.specs.Coercion as coercion;
-ghost use Rattle.deputy_types.specs.KernelCalls.{kernel_row};
-ghost use Rattle.deputy_types.specs.Deriving.{Derives, Gives, bind, lift, pure};
+ghost use Rattle.checked_tree.specs.declared.kernel_table.ParameterKind.TheVariants as argument;
+ghost use Rattle.deputy_rules.specs.Calls as spec;
+ghost use Rattle.deputy_rules.specs.Coercion as coercion;
+ghost use Rattle.checked_tree.specs.KernelTable.{kernel_row as row_of};
+ghost use Rattle.deputy_rules.specs.Deriving.{Derives, Yields, bind, lift, pure};
 ghost use Rattle.deputy_types.specs.Options.{and_then};
-ghost use Rattle.deputy_types.specs.Values.{value_of as value_in};
+ghost use Rattle.deputy_rules.specs.Values.{value_of as value_in};
 
 use crate::calls::call_named;
 use crate::convert::{handed, handed_over, null, null_number};
 use crate::functions::Functions;
 use crate::handlers::handler;
-use crate::kernel_rows::{answers, argument_kinds};
 use crate::targets::{automatic_target, call_target, free_slot};
 use c_tree::{Expr, TypeName};
-use checked_tree::{Argument, CheckedStmt, KernelName, PointerOperand, Scalar, Shape, Target};
-use deputy_types::{
-    ArgumentKind, Asked, Derived, Element, Handed, KernelArguments, Pointed, Refusal, Returned,
-    Value, kernel_named,
+use checked_tree::{
+    Argument, CheckedStmt, KernelName, KernelResult, ParameterKind, PointerOperand, Scalar, Shape,
+    Target, kernel_named, kernel_row,
 };
+use deputy_rules::{
+    Asked, Derived, DerivingRefusal, Handed, KernelArguments, Pointed, Returned, Value,
+};
+use deputy_types::Element;
 use rules_expr::{Context, derive, integer_of, promoted, value_of};
 use sd_base::Name;
 use sqlite_items::Items;
@@ -50,7 +52,7 @@ fn no_arguments(alloc: Global) -> KernelArguments
 }
 
 /// An integer argument of a kernel call, behind those that are there.
-#[tactic(auto, unfolding(deputy_types::specs::Deriving::bind, deputy_types::specs::Calls::kernel_argument))]
+#[tactic(auto, unfolding(deputy_rules::specs::Deriving::bind, deputy_rules::specs::Calls::kernel_argument))]
 fn number_argument(
     alloc: Global,
     ctx: &Context<'_>,
@@ -58,7 +60,7 @@ fn number_argument(
     e: &Expr,
     given: KernelArguments,
     asked: &mut Items<Asked>,
-) -> Result<KernelArguments, Refusal>
+) -> Result<KernelArguments, DerivingRefusal>
     ensures { Derives (spec.kernel_argument ctx.now functions.now argument.Number e.now given asked.old) result asked.new }
 {
     let derived = derive(alloc, ctx, e, asked)?;
@@ -72,7 +74,7 @@ fn number_argument(
 }
 
 /// A text that is handed over.
-#[tactic(auto, unfolding(deputy_types::specs::Deriving::bind, deputy_types::specs::Calls::kernel_argument))]
+#[tactic(auto, unfolding(deputy_rules::specs::Deriving::bind, deputy_rules::specs::Calls::kernel_argument))]
 fn text_argument(
     alloc: Global,
     ctx: &Context<'_>,
@@ -80,7 +82,7 @@ fn text_argument(
     e: &Expr,
     given: KernelArguments,
     asked: &mut Items<Asked>,
-) -> Result<KernelArguments, Refusal>
+) -> Result<KernelArguments, DerivingRefusal>
     ensures { Derives (spec.kernel_argument ctx.now functions.now argument.Text e.now given asked.old) result asked.new }
 {
     let derived = derive(alloc, ctx, e, asked)?;
@@ -91,14 +93,14 @@ fn text_argument(
 }
 
 /// A handler that is handed over.
-#[tactic(auto, unfolding(deputy_types::specs::Deriving::bind, deputy_types::specs::Calls::kernel_argument))]
+#[tactic(auto, unfolding(deputy_rules::specs::Deriving::bind, deputy_rules::specs::Calls::kernel_argument))]
 fn handler_argument(
     ctx: &Context<'_>,
     functions: &Functions,
     e: &Expr,
     given: KernelArguments,
     asked: &mut Items<Asked>,
-) -> Result<KernelArguments, Refusal>
+) -> Result<KernelArguments, DerivingRefusal>
     ensures { Derives (spec.kernel_argument ctx.now functions.now argument.Handler e.now given asked.old) result asked.new }
 {
     match handler(functions, e) {
@@ -107,39 +109,42 @@ fn handler_argument(
             more.handler = number;
             Ok(more)
         }
-        None => Err(Refusal::NoRule),
+        None => Err(DerivingRefusal::NoRule),
     }
 }
 
-/// One argument of a kernel call, behind those that are there.
+/// One argument of a kernel call, behind those that are there. No rule for what `kalloc` and `kfree` take.
+#[tactic(auto, unfolding(deputy_rules::specs::Calls::kernel_argument))]
 fn kernel_argument(
     alloc: Global,
     ctx: &Context<'_>,
     functions: &Functions,
-    kind: ArgumentKind,
+    kind: ParameterKind,
     e: &Expr,
     given: KernelArguments,
     asked: &mut Items<Asked>,
-) -> Result<KernelArguments, Refusal>
+) -> Result<KernelArguments, DerivingRefusal>
     ensures { Derives (spec.kernel_argument ctx.now functions.now kind e.now given asked.old) result asked.new }
 {
     match kind {
-        ArgumentKind::Number => number_argument(alloc, ctx, functions, e, given, asked),
-        ArgumentKind::Text => text_argument(alloc, ctx, functions, e, given, asked),
-        ArgumentKind::Handler => handler_argument(ctx, functions, e, given, asked),
+        ParameterKind::Number => number_argument(alloc, ctx, functions, e, given, asked),
+        ParameterKind::Text => text_argument(alloc, ctx, functions, e, given, asked),
+        ParameterKind::Handler => handler_argument(ctx, functions, e, given, asked),
+        ParameterKind::Element => Err(DerivingRefusal::NoRule),
+        ParameterKind::Block => Err(DerivingRefusal::NoRule),
     }
 }
 
 /// The arguments from left to right, one for each of the call's kinds. No rule where there are more or fewer.
-#[tactic(auto, unfolding(deputy_types::specs::Deriving::bind))]
+#[tactic(auto, unfolding(deputy_rules::specs::Deriving::bind))]
 fn kernel_arguments(
     alloc: Global,
     ctx: &Context<'_>,
     functions: &Functions,
-    kinds: &[ArgumentKind],
+    kinds: &[ParameterKind],
     args: &[Expr],
     asked: &mut Items<Asked>,
-) -> Result<KernelArguments, Refusal>
+) -> Result<KernelArguments, DerivingRefusal>
     ensures { Derives (spec.kernel_arguments ctx.now functions.now kinds.now args.now spec.no_arguments asked.old) result asked.new }
 {
     let mut given = no_arguments(alloc);
@@ -150,32 +155,32 @@ fn kernel_arguments(
                 given = kernel_argument(alloc, ctx, functions, *kind, e, given, asked)?;
                 rest = more;
             }
-            [] => return Err(Refusal::NoRule),
+            [] => return Err(DerivingRefusal::NoRule),
         }
     }
     match rest {
         [] => Ok(given),
-        [_, ..] => Err(Refusal::NoRule),
+        [_, ..] => Err(DerivingRefusal::NoRule),
     }
 }
 
-/// What a kernel call answers.
-fn kernel_result(answers: bool) -> Returned
-    ensures { Some result ≡ spec.kernel_result answers }
+/// What a kernel call gives back. None where it is a block.
+fn kernel_result(given: KernelResult) -> Option<Returned>
+    ensures { result ≡ spec.kernel_result given }
 {
-    if answers {
-        Returned::Value(Shape::Int(Scalar::I32))
-    } else {
-        Returned::Nothing
+    match given {
+        KernelResult::Nothing => Some(Returned::Nothing),
+        KernelResult::Number => Some(Returned::Value(Shape::Int(Scalar::I32))),
+        KernelResult::Block => None,
     }
 }
 
 /// The target of a kernel call.
 fn kernel_target(ctx: &Context<'_>, name: KernelName, x: Option<&Name>) -> Option<Option<Target>>
-    ensures { result ≡ spec.call_target ctx.now (spec.kernel_result (kernel_row name).answers) (option_copied x.entry) }
+    ensures { result ≡ spec.call_target ctx.now (spec.kernel_result (row_of name).result) (option_copied x.entry) }
 {
-    let returned = kernel_result(answers(name));
-    call_target(ctx, Some(&returned), x)
+    let returned = kernel_result(kernel_row(name).result);
+    call_target(ctx, returned.as_ref(), x)
 }
 
 /// The form of a kernel call without an element type.
@@ -200,7 +205,7 @@ fn kernel_form(
 }
 
 /// A kernel call.
-#[tactic(auto, unfolding(deputy_types::specs::Deriving::bind, deputy_types::specs::Calls::call_kernel))]
+#[tactic(auto, unfolding(deputy_rules::specs::Deriving::bind, deputy_rules::specs::Calls::call_kernel))]
 fn call_kernel(
     alloc: Global,
     ctx: &Context<'_>,
@@ -209,22 +214,22 @@ fn call_kernel(
     x: Option<&Name>,
     args: &[Expr],
     asked: &mut Items<Asked>,
-) -> Result<CheckedStmt, Refusal>
+) -> Result<CheckedStmt, DerivingRefusal>
     ensures { Derives (spec.call_kernel ctx.now functions.now name (option_copied x.entry) args.now asked.old) result asked.new }
 {
     match kernel_target(ctx, name, x) {
         Some(target) => {
-            let kinds = argument_kinds(alloc, name)?;
-            let given = kernel_arguments(alloc, ctx, functions, kinds.as_slice(), args, asked)?;
+            let kinds = kernel_row(name).parameters;
+            let given = kernel_arguments(alloc, ctx, functions, kinds, args, asked)?;
             Ok(kernel_form(ctx, target, name, given))
         }
-        None => Err(Refusal::NoRule),
+        None => Err(DerivingRefusal::NoRule),
     }
 }
 
 /// `f(..)` and `x = f(..)`, of a kernel call or of a function with a body. No rule where there is none of this name, an argument is too many or too few or has no such
 /// type, or x may not take the result.
-#[tactic(auto, unfolding(deputy_types::specs::Calls::call))]
+#[tactic(auto, unfolding(deputy_rules::specs::Calls::call))]
 pub(crate) fn call(
     alloc: Global,
     ctx: &Context<'_>,
@@ -233,7 +238,7 @@ pub(crate) fn call(
     name: &Name,
     args: &[Expr],
     asked: &mut Items<Asked>,
-) -> Result<CheckedStmt, Refusal>
+) -> Result<CheckedStmt, DerivingRefusal>
     ensures { Derives (spec.call ctx.now functions.now (option_copied x.entry) name.now args.now asked.old) result asked.new }
 {
     match kernel_named(name) {
@@ -253,13 +258,13 @@ fn kalloc_target(ctx: &Context<'_>, x: &Name, elem: u32) -> Option<Target>
 }
 
 /// The number of elements, which is taken as a whole number.
-#[tactic(auto, unfolding(deputy_types::specs::Deriving::bind, deputy_types::specs::Calls::counted))]
+#[tactic(auto, unfolding(deputy_rules::specs::Deriving::bind, deputy_rules::specs::Calls::counted))]
 fn counted(
     alloc: Global,
     ctx: &Context<'_>,
     e: &Expr,
     asked: &mut Items<Asked>,
-) -> Result<Argument, Refusal>
+) -> Result<Argument, DerivingRefusal>
     ensures { Derives (spec.counted ctx.now e.now asked.old) result asked.new }
 {
     let derived = derive(alloc, ctx, e, asked)?;
@@ -288,8 +293,8 @@ fn kalloc_form(
     count: Argument,
     elem: u32,
     size: u32,
-) -> Result<CheckedStmt, Refusal>
-    ensures { Gives (Some (statement.Kernel ctx.now.line (Some target) kernel.Kalloc (count ∷ []) None 0 elem size)) result }
+) -> Result<CheckedStmt, DerivingRefusal>
+    ensures { Yields (Some (statement.Kernel ctx.now.line (Some target) kernel.Kalloc (count ∷ []) None 0 elem size)) result }
 {
     let mut arguments = Items::new(alloc);
     arguments.push(count)?;
@@ -306,7 +311,7 @@ fn kalloc_form(
 }
 
 /// The same with the target x.
-#[tactic(auto, unfolding(deputy_types::specs::Deriving::bind))]
+#[tactic(auto, unfolding(deputy_rules::specs::Deriving::bind))]
 fn kalloc_to(
     alloc: Global,
     ctx: &Context<'_>,
@@ -314,7 +319,7 @@ fn kalloc_to(
     elem: u32,
     e: &Expr,
     asked: &mut Items<Asked>,
-) -> Result<CheckedStmt, Refusal>
+) -> Result<CheckedStmt, DerivingRefusal>
     ensures { Derives
         (bind (spec.counted ctx.now e.now) (λ a. bind (lift (spec.elem_bytes ctx.now elem)) (λ size.
         pure (statement.Kernel ctx.now.line (Some target) kernel.Kalloc (a ∷ []) None 0 elem size))) asked.old)
@@ -323,12 +328,12 @@ fn kalloc_to(
     let count = counted(alloc, ctx, e, asked)?;
     match elem_bytes(ctx, elem) {
         Some(size) => kalloc_form(alloc, ctx, target, count, elem, size),
-        None => Err(Refusal::NoRule),
+        None => Err(DerivingRefusal::NoRule),
     }
 }
 
 /// `x = kalloc(T, e)`. No rule where x is no local or parameter that takes its bounds with it and that no annotation names, its element is not T, or e is no integer.
-#[tactic(auto, unfolding(deputy_types::specs::Deriving::bind, deputy_types::specs::Calls::kalloc))]
+#[tactic(auto, unfolding(deputy_rules::specs::Deriving::bind, deputy_rules::specs::Calls::kalloc))]
 pub(crate) fn kalloc(
     alloc: Global,
     ctx: &Context<'_>,
@@ -336,33 +341,33 @@ pub(crate) fn kalloc(
     type_name: &TypeName,
     e: &Expr,
     asked: &mut Items<Asked>,
-) -> Result<CheckedStmt, Refusal>
+) -> Result<CheckedStmt, DerivingRefusal>
     ensures { Derives (spec.kalloc ctx.now x.now type_name.now e.now asked.old) result asked.new }
 {
     match ctx.types.elem(type_name) {
         Some(elem) => match kalloc_target(ctx, x, elem) {
             Some(target) => kalloc_to(alloc, ctx, target, elem, e, asked),
-            None => Err(Refusal::NoRule),
+            None => Err(DerivingRefusal::NoRule),
         },
-        None => Err(Refusal::NoRule),
+        None => Err(DerivingRefusal::NoRule),
     }
 }
 
 /// A pointer that is given back: none to text.
-fn freed_pointer(p: Pointed) -> Result<Handed, Refusal>
-    ensures { Gives (if p.nullterm then None else Some (coercion.handed_over p)) result }
+fn freed_pointer(p: Pointed) -> Result<Handed, DerivingRefusal>
+    ensures { Yields (if p.nullterm then None else Some (coercion.handed_over p)) result }
 {
     if p.nullterm {
-        Err(Refusal::NoRule)
+        Err(DerivingRefusal::NoRule)
     } else {
         Ok(handed_over(p))
     }
 }
 
 /// A value that is given back: a pointer that is not nullterm, or a null constant.
-#[tactic(auto, unfolding(deputy_types::specs::Calls::freed_value))]
-fn freed_value(alloc: Global, value: Value) -> Result<Handed, Refusal>
-    ensures { Gives (spec.freed_value value) result }
+#[tactic(auto, unfolding(deputy_rules::specs::Calls::freed_value))]
+fn freed_value(alloc: Global, value: Value) -> Result<Handed, DerivingRefusal>
+    ensures { Yields (spec.freed_value value) result }
 {
     match value {
         Value::Null => Ok(null(alloc)?),
@@ -372,8 +377,8 @@ fn freed_value(alloc: Global, value: Value) -> Result<Handed, Refusal>
 }
 
 /// What was derived, where it is given back.
-fn freed(alloc: Global, ctx: &Context<'_>, derived: Derived) -> Result<Handed, Refusal>
-    ensures { Gives (and_then (value_in ctx.now derived) spec.freed_value) result }
+fn freed(alloc: Global, ctx: &Context<'_>, derived: Derived) -> Result<Handed, DerivingRefusal>
+    ensures { Yields (and_then (value_in ctx.now derived) spec.freed_value) result }
 {
     let value = value_of(alloc, ctx, derived)?;
     freed_value(alloc, value)
@@ -396,13 +401,13 @@ fn kfree_form(alloc: Global, ctx: &Context<'_>, h: Handed) -> CheckedStmt
 }
 
 /// `kfree(e)`. No rule where e is no pointer expression or null constant, or nullterm.
-#[tactic(auto, unfolding(deputy_types::specs::Deriving::bind, deputy_types::specs::Calls::kfree))]
+#[tactic(auto, unfolding(deputy_rules::specs::Deriving::bind, deputy_rules::specs::Calls::kfree))]
 pub(crate) fn kfree(
     alloc: Global,
     ctx: &Context<'_>,
     e: &Expr,
     asked: &mut Items<Asked>,
-) -> Result<CheckedStmt, Refusal>
+) -> Result<CheckedStmt, DerivingRefusal>
     ensures { Derives (spec.kfree ctx.now e.now asked.old) result asked.new }
 {
     let derived = derive(alloc, ctx, e, asked)?;

@@ -1,10 +1,10 @@
 //! Statements and bodies: each with its checks, behind those of the function so far; and the line of the first that no rule derives.
 ghost use Rattle.std.specs.Prelude.{◌≡◌, ◌<◌, ◌^◌, [], map};
 ghost use Rattle.checked_tree.specs.declared.statements.CheckedStmt.TheVariants as statement;
-ghost use Rattle.deputy_types.specs.Checking.{in_turn};
-ghost use Rattle.deputy_types.specs.Deriving.{Derives};
-ghost use Rattle.deputy_types.specs.Statements as spec;
-ghost use Rattle.rules_stmt.specs.Fits.{Fits};
+ghost use Rattle.deputy_rules.specs.Checking.{in_turn};
+ghost use Rattle.deputy_rules.specs.Deriving.{Derives};
+ghost use Rattle.deputy_rules.specs.Statements as spec;
+ghost use Rattle.rules_stmt.specs.AreFewSlots.{AreFewSlots};
 ghost use Rattle.check_numbering.specs.Building.{numbers_of};
 ghost use Rattle.check_numbering.specs.Outcome.{Checks};
 ghost use Rattle.check_numbering.specs.Placed.{placed};
@@ -13,7 +13,7 @@ use crate::actions::{Home, act, controlling};
 use c_tree::{Action, Body, Expr, Simple, Stmt};
 use check_numbering::{Build, RuleRefusal, at_line, number_checks};
 use checked_tree::{CheckedExpr, CheckedStmt};
-use deputy_types::{Asked, Refusal};
+use deputy_rules::{Asked, DerivingRefusal};
 use rules_expr::Context;
 use sqlite_items::{Boxed, Items};
 use std::alloc::Global;
@@ -27,8 +27,8 @@ fn act_at(
     home: &Home<'_>,
     action: &Action,
     own: &mut Items<Asked>,
-) -> Result<CheckedStmt, Refusal>
-    requires fits { Fits ctx.now.table ctx.now.slots }
+) -> Result<CheckedStmt, DerivingRefusal>
+    requires fits { AreFewSlots ctx.now.table ctx.now.slots }
     requires first { first < 2 ^ 63 }
     ensures { Derives (spec.act (placed ctx.now line first) home.now action.now own.old) result own.new }
 {
@@ -50,7 +50,7 @@ fn controlling_at(
     first: usize,
     e: &Expr,
     own: &mut Items<Asked>,
-) -> Result<Boxed<CheckedExpr>, Refusal>
+) -> Result<Boxed<CheckedExpr>, DerivingRefusal>
     requires { first < 2 ^ 63 }
     ensures { Derives (spec.controlling (placed ctx.now line first) e.now own.old) result own.new }
 {
@@ -72,7 +72,7 @@ fn simple(
     s: &Simple,
     build: &mut Build,
 ) -> Result<CheckedStmt, RuleRefusal>
-    requires { Fits ctx.now.table ctx.now.slots }
+    requires { AreFewSlots ctx.now.table ctx.now.slots }
     ensures { Checks (spec.simple ctx.now home.now s.now (numbers_of build.old)) result (numbers_of build.new) }
 {
     let mut own = Items::new(alloc);
@@ -124,7 +124,7 @@ fn condition(
 }
 
 /// A body that is one simple statement.
-#[tactic(auto, unfolding(deputy_types::specs::Checking::afterwards, deputy_types::specs::Statements::single))]
+#[tactic(auto, unfolding(deputy_rules::specs::Checking::afterwards, deputy_rules::specs::Statements::single))]
 fn single(
     alloc: Global,
     ctx: &Context<'_>,
@@ -132,7 +132,7 @@ fn single(
     s: &Simple,
     build: &mut Build,
 ) -> Result<Items<CheckedStmt>, RuleRefusal>
-    requires { Fits ctx.now.table ctx.now.slots }
+    requires { AreFewSlots ctx.now.table ctx.now.slots }
     ensures { Checks (spec.single ctx.now home.now s.now (numbers_of build.old)) result (numbers_of build.new) }
 {
     let mut body = Items::new(alloc);
@@ -159,7 +159,7 @@ fn if_form(
 
 /// A statement.
 #[cycle(statement)]
-#[tactic(auto, unfolding(deputy_types::specs::Statements::check_statement, deputy_types::specs::Statements::check_body, deputy_types::specs::Checking::afterwards))]
+#[tactic(auto, unfolding(deputy_rules::specs::Statements::check_statement, deputy_rules::specs::Statements::check_body, deputy_rules::specs::Checking::afterwards))]
 fn check_statement(
     alloc: Global,
     ctx: &Context<'_>,
@@ -167,7 +167,7 @@ fn check_statement(
     statement: &Stmt,
     build: &mut Build,
 ) -> Result<CheckedStmt, RuleRefusal>
-    requires { Fits ctx.now.table ctx.now.slots }
+    requires { AreFewSlots ctx.now.table ctx.now.slots }
     ensures { Checks (spec.check_statement ctx.now home.now statement.now (numbers_of build.old)) result (numbers_of build.new) }
 {
     match statement {
@@ -197,7 +197,7 @@ fn check_statement(
 
 /// A body.
 #[cycle(statement)]
-#[tactic(auto, using(crate::proofs::StatementEquations::at_block), unfolding(deputy_types::specs::Statements::check_statement, deputy_types::specs::Statements::check_body))]
+#[tactic(auto, using(crate::proofs::StatementEquations::at_block), unfolding(deputy_rules::specs::Statements::check_statement, deputy_rules::specs::Statements::check_body))]
 fn check_body(
     alloc: Global,
     ctx: &Context<'_>,
@@ -205,7 +205,7 @@ fn check_body(
     body: &Body,
     build: &mut Build,
 ) -> Result<Items<CheckedStmt>, RuleRefusal>
-    requires { Fits ctx.now.table ctx.now.slots }
+    requires { AreFewSlots ctx.now.table ctx.now.slots }
     ensures { Checks (spec.check_body ctx.now home.now body.now (numbers_of build.old)) result (numbers_of build.new) }
 {
     match body {
@@ -216,7 +216,7 @@ fn check_body(
 
 /// Statements in turn. `NoRule` with the line of the first that no rule derives.
 #[cycle(statement)]
-#[tactic(auto, unfolding(deputy_types::specs::Checking::afterwards))]
+#[tactic(auto, unfolding(deputy_rules::specs::Checking::afterwards))]
 pub(crate) fn check_each(
     alloc: Global,
     ctx: &Context<'_>,
@@ -224,7 +224,7 @@ pub(crate) fn check_each(
     list: &[Stmt],
     build: &mut Build,
 ) -> Result<Items<CheckedStmt>, RuleRefusal>
-    requires { Fits ctx.now.table ctx.now.slots }
+    requires { AreFewSlots ctx.now.table ctx.now.slots }
     ensures { Checks (in_turn (map (spec.check_statement ctx.now home.now) list.now) [] (numbers_of build.old)) result (numbers_of build.new) }
 {
     let mut done = Items::new(alloc);

@@ -1,19 +1,20 @@
 //! `l = e` for a place in memory.
 ghost use Rattle.std.specs.Prelude.{◌≡◌};
 ghost use Rattle.checked_tree.specs.declared.statements.CheckedStmt.TheVariants as statement;
-ghost use Rattle.deputy_types.specs.Assignment as spec;
-ghost use Rattle.deputy_types.specs.Coercion as coercion;
-ghost use Rattle.deputy_types.specs.Deriving as asking;
-ghost use Rattle.deputy_types.specs.Deriving.{Derives, bind, lift};
-ghost use Rattle.deputy_types.specs.Values.{address, integer_of as integer_in, is_nullterm as is_text};
-ghost use Rattle.rules_stmt.specs.Fits.{Fits};
+ghost use Rattle.deputy_rules.specs.Assignment as spec;
+ghost use Rattle.deputy_rules.specs.Coercion as coercion;
+ghost use Rattle.deputy_rules.specs.Deriving as asking;
+ghost use Rattle.deputy_rules.specs.Deriving.{Derives, bind, lift};
+ghost use Rattle.deputy_rules.specs.Values.{address, integer_of as integer_in, is_nullterm as is_text};
+ghost use Rattle.rules_stmt.specs.AreFewSlots.{AreFewSlots};
 
 use crate::changes::{member_changes, present, struct_names};
 use crate::coerce::{coerce_counted, coerce_to};
 use crate::convert::{converted_side, handed};
 use crate::tags::tag_change;
 use checked_tree::{Bounds, CheckedExpr, CheckedStmt, Scalar, Shape};
-use deputy_types::{Asked, AskedCond, Derived, Element, Handed, Place, Refusal, Source, Whole};
+use deputy_rules::{Asked, AskedCond, Derived, DerivingRefusal, Handed, Place, Source, Whole};
+use deputy_types::Element;
 use rules_expr::{Context, Ids, ask, integer_of, is_nullterm, one, sum_of};
 use sd_base::CheckKind;
 use sqlite_items::{Boxed, Items};
@@ -42,7 +43,7 @@ fn store_form(
 }
 
 /// To a place that no sibling names: a pointer to so many elements.
-#[tactic(auto, unfolding(deputy_types::specs::Deriving::bind))]
+#[tactic(auto, unfolding(deputy_rules::specs::Deriving::bind))]
 fn store_reaching(
     alloc: Global,
     ctx: &Context<'_>,
@@ -51,7 +52,7 @@ fn store_reaching(
     count: i64,
     h: Handed,
     asked: &mut Items<Asked>,
-) -> Result<CheckedStmt, Refusal>
+) -> Result<CheckedStmt, DerivingRefusal>
     ensures { Derives
         (bind (coercion.coerce_counted ctx.now key count h) (λ ids. asking.pure (statement.Store ctx.now.line address place.form h.form ids)) asked.old)
         result asked.new }
@@ -61,7 +62,7 @@ fn store_reaching(
 }
 
 /// The same of what was derived.
-#[tactic(auto, unfolding(deputy_types::specs::Deriving::bind, deputy_types::specs::Assignment::store_counted))]
+#[tactic(auto, unfolding(deputy_rules::specs::Deriving::bind, deputy_rules::specs::Assignment::store_counted))]
 fn store_counted(
     alloc: Global,
     ctx: &Context<'_>,
@@ -70,7 +71,7 @@ fn store_counted(
     elem: u32,
     count: i64,
     asked: &mut Items<Asked>,
-) -> Result<CheckedStmt, Refusal>
+) -> Result<CheckedStmt, DerivingRefusal>
     ensures { Derives (spec.store_counted ctx.now place value elem count asked.old) result asked.new }
 {
     match ctx.types.element_at(elem) {
@@ -78,12 +79,12 @@ fn store_counted(
             let h = handed(alloc, ctx, key, false, value)?;
             store_reaching(alloc, ctx, place, key, count, h, asked)
         }
-        None => Err(Refusal::NoRule),
+        None => Err(DerivingRefusal::NoRule),
     }
 }
 
 /// A pointer to text.
-#[tactic(auto, unfolding(deputy_types::specs::Deriving::bind, deputy_types::specs::Assignment::store_text))]
+#[tactic(auto, unfolding(deputy_rules::specs::Deriving::bind, deputy_rules::specs::Assignment::store_text))]
 fn store_text(
     alloc: Global,
     ctx: &Context<'_>,
@@ -91,7 +92,7 @@ fn store_text(
     value: Derived,
     elem: u32,
     asked: &mut Items<Asked>,
-) -> Result<CheckedStmt, Refusal>
+) -> Result<CheckedStmt, DerivingRefusal>
     ensures { Derives (spec.store_text ctx.now place value elem asked.old) result asked.new }
 {
     match ctx.types.element_at(elem) {
@@ -99,12 +100,12 @@ fn store_text(
             let h = handed(alloc, ctx, key, true, value)?;
             Ok(store_form(ctx, ADDRESS, place.form, h.form, Items::new(alloc)))
         }
-        None => Err(Refusal::NoRule),
+        None => Err(DerivingRefusal::NoRule),
     }
 }
 
 /// An integer.
-#[tactic(auto, unfolding(deputy_types::specs::Deriving::bind, deputy_types::specs::Assignment::store_integer))]
+#[tactic(auto, unfolding(deputy_rules::specs::Deriving::bind, deputy_rules::specs::Assignment::store_integer))]
 fn store_integer(
     alloc: Global,
     ctx: &Context<'_>,
@@ -112,7 +113,7 @@ fn store_integer(
     value: Derived,
     scalar: Scalar,
     asked: &mut Items<Asked>,
-) -> Result<CheckedStmt, Refusal>
+) -> Result<CheckedStmt, DerivingRefusal>
     ensures { Derives (spec.store_integer ctx.now place value scalar asked.old) result asked.new }
 {
     let w = integer_of(alloc, ctx, value)?;
@@ -120,7 +121,7 @@ fn store_integer(
 }
 
 /// To a global that is no array, or an element.
-#[tactic(auto, unfolding(deputy_types::specs::Assignment::store_element))]
+#[tactic(auto, unfolding(deputy_rules::specs::Assignment::store_element))]
 fn store_element(
     alloc: Global,
     ctx: &Context<'_>,
@@ -128,12 +129,12 @@ fn store_element(
     value: Derived,
     key: Element,
     asked: &mut Items<Asked>,
-) -> Result<CheckedStmt, Refusal>
+) -> Result<CheckedStmt, DerivingRefusal>
     ensures { Derives (spec.store_element ctx.now place value key asked.old) result asked.new }
 {
     match key {
         Element::Int(scalar) => store_integer(alloc, ctx, place, value, scalar, asked),
-        Element::Struct(_) => Err(Refusal::NoRule),
+        Element::Struct(_) => Err(DerivingRefusal::NoRule),
         Element::Sentinel(elem) => store_counted(alloc, ctx, place, value, elem, 0, asked),
         Element::Nullterm(elem) => store_text(alloc, ctx, place, value, elem, asked),
         Element::Count(elem, count) => store_counted(alloc, ctx, place, value, elem, count, asked),
@@ -141,14 +142,14 @@ fn store_element(
 }
 
 /// To a byte through a nullterm pointer: the terminator is not overwritten, unless by another.
-#[tactic(auto, unfolding(deputy_types::specs::Deriving::bind, deputy_types::specs::Assignment::store_byte))]
+#[tactic(auto, unfolding(deputy_rules::specs::Deriving::bind, deputy_rules::specs::Assignment::store_byte))]
 fn store_byte(
     alloc: Global,
     ctx: &Context<'_>,
     place: Place,
     w: Whole,
     asked: &mut Items<Asked>,
-) -> Result<CheckedStmt, Refusal>
+) -> Result<CheckedStmt, DerivingRefusal>
     ensures { Derives (spec.store_byte ctx.now place w asked.old) result asked.new }
 {
     let new = converted_side(alloc, Scalar::U8, &w)?;
@@ -161,14 +162,14 @@ fn store_byte(
 }
 
 /// The same of what was derived.
-#[tactic(auto, unfolding(deputy_types::specs::Deriving::bind))]
+#[tactic(auto, unfolding(deputy_rules::specs::Deriving::bind))]
 fn store_character(
     alloc: Global,
     ctx: &Context<'_>,
     place: Place,
     value: Derived,
     asked: &mut Items<Asked>,
-) -> Result<CheckedStmt, Refusal>
+) -> Result<CheckedStmt, DerivingRefusal>
     ensures { Derives (bind (lift (integer_in ctx.now value)) (spec.store_byte ctx.now place) asked.old) result asked.new }
 {
     let w = integer_of(alloc, ctx, value)?;
@@ -176,7 +177,7 @@ fn store_character(
 }
 
 /// To an integer field or arm: the member with this number, at this offset.
-#[tactic(auto, unfolding(deputy_types::specs::Deriving::bind, deputy_types::specs::Assignment::store_number))]
+#[tactic(auto, unfolding(deputy_rules::specs::Deriving::bind, deputy_rules::specs::Assignment::store_number))]
 fn store_number(
     alloc: Global,
     ctx: &Context<'_>,
@@ -187,8 +188,8 @@ fn store_number(
     scalar: Scalar,
     w: Whole,
     asked: &mut Items<Asked>,
-) -> Result<CheckedStmt, Refusal>
-    requires { Fits ctx.now.table ctx.now.slots }
+) -> Result<CheckedStmt, DerivingRefusal>
+    requires { AreFewSlots ctx.now.table ctx.now.slots }
     ensures { Derives (spec.store_number ctx.now place structure member offset scalar w asked.old) result asked.new }
 {
     let new = sum_of(alloc, converted_side(alloc, scalar, &w)?)?;
@@ -201,7 +202,7 @@ fn store_number(
 }
 
 /// To a pointer field or arm.
-#[tactic(auto, unfolding(deputy_types::specs::Deriving::bind, deputy_types::specs::Assignment::store_pointer))]
+#[tactic(auto, unfolding(deputy_rules::specs::Deriving::bind, deputy_rules::specs::Assignment::store_pointer))]
 fn store_pointer(
     alloc: Global,
     ctx: &Context<'_>,
@@ -212,8 +213,8 @@ fn store_pointer(
     bounds: &Bounds,
     h: Handed,
     asked: &mut Items<Asked>,
-) -> Result<CheckedStmt, Refusal>
-    requires { Fits ctx.now.table ctx.now.slots }
+) -> Result<CheckedStmt, DerivingRefusal>
+    requires { AreFewSlots ctx.now.table ctx.now.slots }
     ensures { Derives (spec.store_pointer ctx.now place structure member key bounds.now h asked.old) result asked.new }
 {
     let naming = present(struct_names(alloc, &place, structure)?);
@@ -223,7 +224,7 @@ fn store_pointer(
 }
 
 /// To an integer field or arm, what was derived.
-#[tactic(auto, unfolding(deputy_types::specs::Deriving::bind))]
+#[tactic(auto, unfolding(deputy_rules::specs::Deriving::bind))]
 fn store_whole(
     alloc: Global,
     ctx: &Context<'_>,
@@ -234,8 +235,8 @@ fn store_whole(
     offset: u32,
     scalar: Scalar,
     asked: &mut Items<Asked>,
-) -> Result<CheckedStmt, Refusal>
-    requires { Fits ctx.now.table ctx.now.slots }
+) -> Result<CheckedStmt, DerivingRefusal>
+    requires { AreFewSlots ctx.now.table ctx.now.slots }
     ensures { Derives (bind (lift (integer_in ctx.now value)) (spec.store_number ctx.now place structure member offset scalar) asked.old) result asked.new }
 {
     let w = integer_of(alloc, ctx, value)?;
@@ -245,7 +246,7 @@ fn store_whole(
 }
 
 /// To a pointer field or arm to this element, what was derived.
-#[tactic(auto, unfolding(deputy_types::specs::Deriving::bind))]
+#[tactic(auto, unfolding(deputy_rules::specs::Deriving::bind))]
 fn store_bounded(
     alloc: Global,
     ctx: &Context<'_>,
@@ -256,8 +257,8 @@ fn store_bounded(
     key: Element,
     bounds: &Bounds,
     asked: &mut Items<Asked>,
-) -> Result<CheckedStmt, Refusal>
-    requires { Fits ctx.now.table ctx.now.slots }
+) -> Result<CheckedStmt, DerivingRefusal>
+    requires { AreFewSlots ctx.now.table ctx.now.slots }
     ensures { Derives
         (bind (lift (coercion.handed ctx.now key (is_text bounds.now) value)) (spec.store_pointer ctx.now place structure member key bounds.now) asked.old)
         result asked.new }
@@ -267,7 +268,7 @@ fn store_bounded(
 }
 
 /// To a field or arm of this shape at this offset.
-#[tactic(auto, unfolding(deputy_types::specs::Deriving::bind, deputy_types::specs::Assignment::store_member))]
+#[tactic(auto, unfolding(deputy_rules::specs::Deriving::bind, deputy_rules::specs::Assignment::store_member))]
 fn store_member(
     alloc: Global,
     ctx: &Context<'_>,
@@ -278,8 +279,8 @@ fn store_member(
     offset: u32,
     shape: &Shape,
     asked: &mut Items<Asked>,
-) -> Result<CheckedStmt, Refusal>
-    requires { Fits ctx.now.table ctx.now.slots }
+) -> Result<CheckedStmt, DerivingRefusal>
+    requires { AreFewSlots ctx.now.table ctx.now.slots }
     ensures { Derives (spec.store_member ctx.now place value structure member offset shape.now asked.old) result asked.new }
 {
     match shape {
@@ -292,15 +293,15 @@ fn store_member(
             Some(key) => store_bounded(
                 alloc, ctx, place, value, structure, member, key, bounds, asked,
             ),
-            None => Err(Refusal::NoRule),
+            None => Err(DerivingRefusal::NoRule),
         },
-        Shape::Struct(_) => Err(Refusal::NoRule),
-        Shape::Address => Err(Refusal::NoRule),
+        Shape::Struct(_) => Err(DerivingRefusal::NoRule),
+        Shape::Address => Err(DerivingRefusal::NoRule),
     }
 }
 
 /// To a place whose type is declared there.
-#[tactic(auto, unfolding(deputy_types::specs::Deriving::bind))]
+#[tactic(auto, unfolding(deputy_rules::specs::Deriving::bind))]
 fn store_by(
     alloc: Global,
     ctx: &Context<'_>,
@@ -308,8 +309,8 @@ fn store_by(
     value: Derived,
     source: Source,
     asked: &mut Items<Asked>,
-) -> Result<CheckedStmt, Refusal>
-    requires { Fits ctx.now.table ctx.now.slots }
+) -> Result<CheckedStmt, DerivingRefusal>
+    requires { AreFewSlots ctx.now.table ctx.now.slots }
     ensures { Derives (spec.store_by ctx.now place value source asked.old) result asked.new }
 {
     match source {
@@ -327,21 +328,21 @@ fn store_by(
                 &found.shape,
                 asked,
             ),
-            None => Err(Refusal::NoRule),
+            None => Err(DerivingRefusal::NoRule),
         },
     }
 }
 
 /// To a place.
-#[tactic(auto, unfolding(deputy_types::specs::Assignment::store))]
+#[tactic(auto, unfolding(deputy_rules::specs::Assignment::store))]
 pub(crate) fn store(
     alloc: Global,
     ctx: &Context<'_>,
     place: Place,
     value: Derived,
     asked: &mut Items<Asked>,
-) -> Result<CheckedStmt, Refusal>
-    requires { Fits ctx.now.table ctx.now.slots }
+) -> Result<CheckedStmt, DerivingRefusal>
+    requires { AreFewSlots ctx.now.table ctx.now.slots }
     ensures { Derives (spec.store ctx.now place value asked.old) result asked.new }
 {
     let source = place.source;

@@ -1,13 +1,12 @@
 //! An assignment to a tag: it keeps its value, or all bytes of its union are 0.
 ghost use Rattle.std.specs.Prelude.{◌≡◌, IfOk, option_copied, unwrap_or, option_map, slice_get, [], ◌∷◌};
-ghost use Rattle.deputy_types.specs.Changes as spec;
-ghost use Rattle.deputy_types.specs.Deriving.{Derives};
+ghost use Rattle.deputy_rules.specs.Changes as spec;
+ghost use Rattle.deputy_rules.specs.Deriving.{Derives};
 
-use checked_tree::{Part, Scalar, Sum, UnionShape};
-use deputy_types::{Asked, AskedCond, Place, Refusal, TypeTable};
-use rules_expr::{
-    Context, Ids, ask, atom_part, beyond, copy_form, copy_sum, load_form, one, with_part,
-};
+use checked_tree::{Part, Scalar, Sum, UnionShape, copied_sum};
+use deputy_rules::{Asked, AskedCond, DerivingRefusal, Place};
+use deputy_types::TypeTable;
+use rules_expr::{Context, Ids, ask, atom_part, beyond, boxed_copy, load_form, one, with_part};
 use sd_base::CheckKind;
 use sqlite_items::{Items, at};
 use std::alloc::{AllocError, Global};
@@ -35,7 +34,7 @@ fn tagged_in(types: &TypeTable, structure: u32, member: u32) -> Option<UnionShap
 }
 
 /// The address of a union, from that of its tag. The only refusal is want of memory.
-#[tactic(auto, unfolding(deputy_types::specs::Changes::union_address))]
+#[tactic(auto, unfolding(deputy_rules::specs::Changes::union_address))]
 fn union_address(at: Sum, tag: u32, part: u32) -> Result<Sum, AllocError>
     ensures { IfOk result (λ s. s ≡ spec.union_address at tag part) }
 {
@@ -51,12 +50,12 @@ fn union_address(at: Sum, tag: u32, part: u32) -> Result<Sum, AllocError>
 fn loaded(alloc: Global, scalar: Scalar, place: &Place) -> Result<Part, AllocError>
     ensures { IfOk result (λ p. p ≡ spec.loaded scalar place.now) }
 {
-    let form = load_form(alloc, scalar, copy_form(alloc, place.form.get())?)?;
+    let form = load_form(alloc, scalar, boxed_copy(alloc, place.form.get())?)?;
     atom_part(alloc, form.get())
 }
 
 /// Asks that the tag at this place keeps its value, or all bytes of its union are 0.
-#[tactic(auto, unfolding(deputy_types::specs::Deriving::bind, deputy_types::specs::Changes::ask_kept))]
+#[tactic(auto, unfolding(deputy_rules::specs::Deriving::bind, deputy_rules::specs::Changes::ask_kept))]
 fn ask_kept(
     alloc: Global,
     ctx: &Context<'_>,
@@ -66,13 +65,13 @@ fn ask_kept(
     new: Part,
     union: UnionShape,
     asked: &mut Items<Asked>,
-) -> Result<Ids, Refusal>
+) -> Result<Ids, DerivingRefusal>
     ensures { Derives (spec.ask_kept ctx.now place.now offset scalar new union asked.old) result asked.new }
 {
     let kept = AskedCond::Kept {
         old: loaded(alloc, scalar, place)?,
         new,
-        at: union_address(copy_sum(alloc, &place.at)?, offset, union.offset)?,
+        at: union_address(copied_sum(alloc, &place.at)?, offset, union.offset)?,
         size: union.size,
     };
     let id = ask(ctx, CheckKind::Change, kept, asked)?;
@@ -89,7 +88,7 @@ fn optional_kept(
     new: Part,
     union: Option<UnionShape>,
     asked: &mut Items<Asked>,
-) -> Result<Ids, Refusal>
+) -> Result<Ids, DerivingRefusal>
     ensures { Derives (spec.optional_kept ctx.now place.now offset scalar new union asked.old) result asked.new }
 {
     match union {
@@ -99,7 +98,7 @@ fn optional_kept(
 }
 
 /// Asks for the check that an assignment to a member needs where the member is the tag of a union: the tag keeps its value, or all bytes of the union are 0.
-#[tactic(auto, unfolding(deputy_types::specs::Changes::tag_change))]
+#[tactic(auto, unfolding(deputy_rules::specs::Changes::tag_change))]
 pub(crate) fn tag_change(
     alloc: Global,
     ctx: &Context<'_>,
@@ -110,7 +109,7 @@ pub(crate) fn tag_change(
     scalar: Scalar,
     new: Part,
     asked: &mut Items<Asked>,
-) -> Result<Ids, Refusal>
+) -> Result<Ids, DerivingRefusal>
     ensures { Derives (spec.tag_change ctx.now place.now structure member offset scalar new asked.old) result asked.new }
 {
     let union = tagged_in(ctx.types, structure, member);

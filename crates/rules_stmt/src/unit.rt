@@ -2,24 +2,25 @@
 ghost use Rattle.std.specs.Prelude.{◌≡◌, ◌<◌, ◌^◌, [], All, Ok, length, IfOk};
 ghost use Rattle.c_tree.specs.declared.items.Item.TheVariants as kinds;
 ghost use Rattle.c_tree.specs.ShortUnit.{IsShortFunction, IsShortUnit};
-ghost use Rattle.deputy_types.specs.Functions as spec;
-ghost use Rattle.deputy_types.specs.Heads as declared;
+ghost use Rattle.deputy_rules.specs.Functions as spec;
+ghost use Rattle.deputy_rules.specs.Heads as declared;
 ghost use Rattle.deputy_types.specs.UnitLayout.{layout};
-ghost use Rattle.rules_stmt.specs.Fits.{Fits};
-ghost use Rattle.rules_stmt.specs.Units.{IsChecked, IsLaidOut, IsShortItem, Steps};
+ghost use Rattle.rules_stmt.specs.AreFewSlots.{AreFewSlots};
+ghost use Rattle.rules_stmt.specs.Units.{IsChecked, AreFewItems, IsShortItem, StepsOver};
 
 use crate::actions::Home;
 use crate::declared::{Shapes, parameter_shapes, result_of, slot_shapes};
-use crate::heads::{function_stands, head_stands, wrong_declaration, wrong_in_prototype};
+use crate::head_parameters::wrong_in_head;
+use crate::heads::{function_stands, head_stands, wrong_declaration};
 use crate::results::{result_scalar, shapes_of};
-use crate::shape_copies::{copy_blocks, copy_shapes, copy_structs};
 use crate::stmts::check_each;
-use crate::texts::Text;
+use crate::texts::SeenText;
 use c_tree::{Function, Head, Item, LimitKind, Unit};
 use check_numbering::{Build, RuleRefusal};
 use checked_tree::{CheckedFn, CheckedUnit};
 use dep_infer::auto_bounds;
-use deputy_types::{Returned, TypeTable};
+use deputy_rules::Returned;
+use deputy_types::TypeTable;
 use rules_expr::Context;
 use sd_base::Memory;
 use sd_base::limits::LOCALS;
@@ -27,15 +28,15 @@ use sqlite_items::Items;
 use std::alloc::Global;
 
 /// The statements of a function with this result.
-#[tactic(auto, unfolding(deputy_types::specs::Functions::check_statements))]
+#[tactic(auto, unfolding(deputy_rules::specs::Functions::check_statements))]
 fn check_statements(
     alloc: Global,
     ctx: &Context<'_>,
-    text: &Text<'_>,
+    text: &SeenText<'_>,
     f: &Function,
     returned: &Returned,
 ) -> Result<CheckedFn, RuleRefusal>
-    requires fits { Fits ctx.now.table ctx.now.slots }
+    requires fits { AreFewSlots ctx.now.table ctx.now.slots }
     requires few { length f.now.head.params < 2 ^ 32 }
     ensures { IsChecked (spec.check_statements text.now f.now returned.now ctx.now) result }
 {
@@ -61,11 +62,11 @@ fn check_statements(
 fn check_declared(
     alloc: Global,
     ctx: &Context<'_>,
-    text: &Text<'_>,
+    text: &SeenText<'_>,
     f: &Function,
     returned: &Returned,
 ) -> Result<CheckedFn, RuleRefusal>
-    requires fits { Fits ctx.now.table ctx.now.slots }
+    requires fits { AreFewSlots ctx.now.table ctx.now.slots }
     requires few { length f.now.head.params < 2 ^ 32 }
     ensures { IsChecked
         (spec.check_declared text.now f.now returned.now ctx.now (declared.wrong_declaration ctx.now.locals ctx.now.slots f.now))
@@ -80,12 +81,12 @@ fn check_declared(
 /// The result of a function, then what stands in it.
 fn check_result(
     alloc: Global,
-    text: &Text<'_>,
+    text: &SeenText<'_>,
     f: &Function,
     slots: &Shapes,
 ) -> Result<CheckedFn, RuleRefusal>
     requires short { IsShortFunction f.now }
-    requires fits { Fits text.now.table slots.now }
+    requires fits { AreFewSlots text.now.table slots.now }
     requires few { length f.now.head.params < 2 ^ 32 }
     requires slots { slots.now ≡ declared.slot_shapes text.now.table f.now }
     ensures { IsChecked
@@ -109,15 +110,15 @@ fn check_result(
 }
 
 /// The k-th function with a body.
-#[tactic(auto, unfolding(deputy_types::specs::Functions::check_function))]
+#[tactic(auto, unfolding(deputy_rules::specs::Functions::check_function))]
 fn check_function(
     alloc: Global,
-    text: &Text<'_>,
+    text: &SeenText<'_>,
     k: usize,
     f: &Function,
 ) -> Result<CheckedFn, RuleRefusal>
     requires short { IsShortFunction f.now }
-    requires laid { IsLaidOut text.now.table text.now.items }
+    requires laid { AreFewItems text.now.table text.now.items }
     ensures { IsChecked (spec.check_function text.now k f.now) result }
 {
     if !function_stands(alloc, text, k, &f.head)? {
@@ -131,13 +132,13 @@ fn check_function(
 }
 
 /// The line of what does not stand in a prototype.
-#[tactic(auto, unfolding(deputy_types::specs::Functions::wrong_prototype))]
-fn wrong_prototype(alloc: Global, text: &Text<'_>, h: &Head) -> Result<Option<u32>, Memory>
+#[tactic(auto, unfolding(deputy_rules::specs::Functions::wrong_prototype))]
+fn wrong_prototype(alloc: Global, text: &SeenText<'_>, h: &Head) -> Result<Option<u32>, Memory>
     ensures { IfOk result (λ line. line ≡ spec.wrong_prototype text.now h.now) }
 {
     if head_stands(alloc, text, h)? {
         let shapes = parameter_shapes(alloc, text.table, h.params.as_slice())?;
-        Ok(wrong_in_prototype(shapes.as_slice(), h))
+        Ok(wrong_in_head(shapes.as_slice(), h))
     } else {
         Ok(Some(h.line))
     }
@@ -147,13 +148,13 @@ fn wrong_prototype(alloc: Global, text: &Text<'_>, h: &Head) -> Result<Option<u3
 #[tactic(auto, using(crate::proofs::ItemSteps::function_done, crate::proofs::ItemSteps::function_refused))]
 fn check_next(
     alloc: Global,
-    text: &Text<'_>,
+    text: &SeenText<'_>,
     f: &Function,
     done: Items<CheckedFn>,
 ) -> Result<Items<CheckedFn>, RuleRefusal>
     requires short { IsShortFunction f.now }
-    requires laid { IsLaidOut text.now.table text.now.items }
-    ensures { Steps text.now (kinds.Function f.now) done result }
+    requires laid { AreFewItems text.now.table text.now.items }
+    ensures { StepsOver text.now (kinds.Function f.now) done result }
 {
     let mut more = done;
     let k = more.len();
@@ -164,13 +165,13 @@ fn check_next(
 /// An item, behind the functions that are done.
 fn check_item(
     alloc: Global,
-    text: &Text<'_>,
+    text: &SeenText<'_>,
     item: &Item,
     done: Items<CheckedFn>,
 ) -> Result<Items<CheckedFn>, RuleRefusal>
     requires short { IsShortItem item.now }
-    requires laid { IsLaidOut text.now.table text.now.items }
-    ensures { Steps text.now item.now done result }
+    requires laid { AreFewItems text.now.table text.now.items }
+    ensures { StepsOver text.now item.now done result }
 {
     match item {
         Item::Struct(_) => Ok(done),
@@ -184,9 +185,9 @@ fn check_item(
 }
 
 /// The items in turn.
-fn check_items(alloc: Global, text: &Text<'_>) -> Result<Items<CheckedFn>, RuleRefusal>
+fn check_items(alloc: Global, text: &SeenText<'_>) -> Result<Items<CheckedFn>, RuleRefusal>
     requires short { All IsShortItem text.now.items }
-    requires laid { IsLaidOut text.now.table text.now.items }
+    requires laid { AreFewItems text.now.table text.now.items }
     ensures { IsChecked (spec.check_items text.now text.now.items []) result }
 {
     let mut done = Items::new(alloc);
@@ -196,23 +197,30 @@ fn check_items(alloc: Global, text: &Text<'_>) -> Result<Items<CheckedFn>, RuleR
     Ok(done)
 }
 
-/// Checks a unit, of whose declarations `types` is the table: exactly the checked unit that the rules derive. `NoRule` with the line of the first head, parameter, local
-/// or statement in text order that no rule derives, and `Limit(line, Locals)` at the head of a function with more than 128 slots, `NoRule` first on the same head.
-#[tactic(auto, using(crate::proofs::LaidOut::laid_out, crate::proofs::ShortItems::items_short), unfolding(deputy_types::specs::Functions::checked, deputy_types::specs::Functions::text_of))]
-pub fn check_unit(alloc: Global, unit: &Unit, types: &TypeTable) -> Result<CheckedUnit, RuleRefusal>
+/// The functions of a unit with this table, in text order.
+#[tactic(auto, using(crate::proofs::LaidOut::laid_out, crate::proofs::ShortItems::items_short), unfolding(deputy_rules::specs::Functions::text_of))]
+fn check_functions(
+    alloc: Global,
+    unit: &Unit,
+    types: &TypeTable,
+) -> Result<Items<CheckedFn>, RuleRefusal>
     requires short { IsShortUnit unit.now }
     requires laid { layout unit.now ≡ Ok types.now }
-    ensures { IsChecked (spec.checked types.now unit.now) result }
+    ensures { IsChecked (spec.check_items (spec.text_of types.now unit.now.items) unit.now.items []) result }
 {
-    let text = Text::new(alloc, types, unit.items.as_slice())?;
-    let functions = check_items(alloc, &text)?;
-    let image = copy_blocks(alloc, types.image())?;
-    let structs = copy_structs(alloc, types.structs())?;
-    let elems = copy_shapes(alloc, types.elems())?;
-    Ok(CheckedUnit {
-        functions,
-        image,
-        structs,
-        elems,
-    })
+    let text = SeenText::new(alloc, types, unit.items.as_slice())?;
+    check_items(alloc, &text)
+}
+
+/// Checks a unit, of whose declarations `types` is the table: exactly the checked unit that the rules derive. `NoRule` with the line of the first head, parameter, local
+/// or statement in text order that no rule derives, and `Limit(line, Locals)` at the head of a function with more than 128 slots, `NoRule` first on the same head.
+/// The table's load image, structs and elements are moved into the unit.
+#[tactic(auto, unfolding(deputy_rules::specs::Functions::checked))]
+pub fn check_unit(alloc: Global, unit: &Unit, types: TypeTable) -> Result<CheckedUnit, RuleRefusal>
+    requires short { IsShortUnit unit.now }
+    requires laid { layout unit.now ≡ Ok types }
+    ensures { IsChecked (spec.checked types unit.now) result }
+{
+    let functions = check_functions(alloc, unit, &types)?;
+    Ok(types.into_unit(functions))
 }

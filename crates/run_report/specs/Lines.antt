@@ -31,7 +31,7 @@ abbrev pub line_of : Item → List ℕ
 line_of (item.Accepted k) = counted (codes "accepted ") k
 line_of (item.Refused k line cause) = codes "refused " ++ decimal k ++ codes " " ++ decimal line ++ codes " " ++ cause ++ codes "\n"
 line_of (item.Unread line) = counted (codes "scenario ") line
-line_of (item.Unlimited line) = codes "scenario " ++ decimal line ++ codes " limit\n"
+line_of (item.PastLimit line) = codes "scenario " ++ decimal line ++ codes " limit\n"
 -- events
 line_of (item.Loaded k) = driver k ++ codes " loaded\n"
 line_of (item.Restarted k) = driver k ++ codes " restarted\n"

@@ -22,7 +22,7 @@ pub enum Item {
         line: u32,
     },
     /// `scenario L limit`: the line of the scenario passes a limit.
-    Unlimited {
+    PastLimit {
         line: u32,
     },
     /// `dK loaded`.

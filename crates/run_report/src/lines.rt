@@ -284,7 +284,7 @@ pub fn put_line(page: &mut Page, item: &Item)
             cause,
         } => put_refused(page, *driver, *line, cause),
         Item::Unread { line } => put_counted(page, b"scenario ", u64::from(*line)),
-        Item::Unlimited { line } => put_count_and(
+        Item::PastLimit { line } => put_count_and(
             page,
             b"scenario ",
             u64::from(*line),

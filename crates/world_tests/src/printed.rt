@@ -34,7 +34,7 @@ fn texts_and_drivers(rt: HostRuntime) -> Result<(), Fail> {
             cause: Name::new(b"word"),
         },
         Item::Unread { line: 65537 },
-        Item::Unlimited { line: 65537 },
+        Item::PastLimit { line: 65537 },
         Item::Loaded { driver: 1 },
         Item::Restarted { driver: 2 },
         Item::Unloaded { driver: 3 },

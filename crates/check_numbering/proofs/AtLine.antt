@@ -1,13 +1,13 @@
 -- What is derived at a line, and then numbered.
 use Rattle.std.proofs.Common.{◌≡◌, ◌≢◌, ℕ, List, [], length, Option, Some, None, Result, Ok, Err, sym, ap, ◌∙◌}
-use Rattle.deputy_types.specs.declared.asked.Asked.{Asked}
-use Rattle.deputy_types.specs.declared.derived.Refusal.{Refusal}
-use Rattle.deputy_types.specs.declared.derived.Refusal.TheVariants as inner
-use Rattle.deputy_types.specs.Checking.{Fault, NoRule}
-use Rattle.deputy_types.specs.Context.{Context}
-use Rattle.deputy_types.specs.Deriving.{Deriving}
-use Rattle.deputy_types.specs.Numbering.{Numbered, numbered}
-use Rattle.deputy_types.specs.Statements.{at_line, numbered_at, with_numbers, statement_context}
+use Rattle.deputy_rules.specs.declared.asked.Asked.{Asked}
+use Rattle.deputy_rules.specs.declared.derived.Refusal.{Refusal}
+use Rattle.deputy_rules.specs.declared.derived.Refusal.TheVariants as inner
+use Rattle.deputy_rules.specs.Checking.{Fault, NoRule}
+use Rattle.deputy_rules.specs.Context.{Context}
+use Rattle.deputy_rules.specs.Deriving.{Deriving}
+use Rattle.deputy_rules.specs.Numbering.{Numbered, numbered}
+use Rattle.deputy_rules.specs.Statements.{at_line, numbered_at, with_numbers, statement_context}
 use Rattle.check_numbering.specs.declared.refusal.RuleRefusal.{RuleRefusal}
 use Rattle.check_numbering.specs.declared.refusal.RuleRefusal.TheVariants as rule
 use Rattle.check_numbering.specs.Outcome.{fault_in, refused_at}

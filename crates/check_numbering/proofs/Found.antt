@@ -12,7 +12,7 @@ use Rattle.checked_tree.specs.declared.expressions.CheckedExpr.{CheckedExpr}
 use Rattle.checked_tree.specs.Bare.{bare}
 use Rattle.checked_tree.specs.Codes.{code, is_same}
 use Rattle.checked_tree.proofs.CodeLaws.{code-bare}
-use Rattle.deputy_types.specs.Numbering.{number_of, with_atom}
+use Rattle.deputy_rules.specs.Numbering.{number_of, with_atom}
 
 abbrev Numbers : Type 0
 Numbers = Vec ℕ Global

@@ -3,7 +3,7 @@ use Rattle.std.proofs.Common.{◌≡◌, ◌+◌, ◌<◌, ◌^◌, ℕ, [], ◌
 use Rattle.dep_expr.specs.Linear.{LinearForm, plus, term_form}
 use Rattle.dep_expr.specs.Weight.{weight}
 use Rattle.dep_expr.proofs.Weights.{weight-append, abs-add}
-use Rattle.deputy_types.specs.Numbering.{Forming}
+use Rattle.deputy_rules.specs.Numbering.{Forming}
 use Rattle.check_numbering.specs.Lightness.{IsLight}
 
 pub light-term : (f : Forming) (form : LinearForm) (k : ℤ) (a n : ℕ) → IsLight f → form ≡ plus f.form (term_form (k, a)) → n ≡ unsigned_abs k

@@ -1,8 +1,8 @@
 -- What a function that checks what stands in a text ensures: the outcome of the definition, unless memory is wanting.
 use Rattle.std.specs.Prelude.{◌≡◌, ◌≢◌, ℕ, Result, Ok, Err}
-use Rattle.deputy_types.specs.declared.derived.Refusal.{Refusal}
-use Rattle.deputy_types.specs.declared.derived.Refusal.TheVariants as inner
-use Rattle.deputy_types.specs.Checking.{Fault, NoRule, Limit}
+use Rattle.deputy_rules.specs.declared.derived.Refusal.{Refusal}
+use Rattle.deputy_rules.specs.declared.derived.Refusal.TheVariants as inner
+use Rattle.deputy_rules.specs.Checking.{Fault, NoRule, Limit}
 use Rattle.check_numbering.specs.declared.refusal.RuleRefusal.{RuleRefusal}
 use Rattle.check_numbering.specs.declared.refusal.RuleRefusal.TheVariants as rule
 

@@ -1,6 +1,6 @@
 //! `Atoms`: the expressions that the checks of a function test, by number.
 ghost use Rattle.std.specs.Prelude.{◌≡◌, [], IfOk, OnOk};
-ghost use Rattle.deputy_types.specs.Numbering.{number_of, with_atom};
+ghost use Rattle.deputy_rules.specs.Numbering.{number_of, with_atom};
 
 use checked_tree::{CheckedExpr, bare, code};
 use indexmap::IndexSet;
@@ -48,7 +48,7 @@ impl Atoms {
     }
 
     /// The number of an expression, which is added behind the atoms where none is equal to it. The only refusal is want of memory.
-    #[tactic(auto, unfolding(deputy_types::specs::Numbering::number_of, deputy_types::specs::Numbering::with_atom))]
+    #[tactic(auto, unfolding(deputy_rules::specs::Numbering::number_of, deputy_rules::specs::Numbering::with_atom))]
     pub(crate) fn number(&mut self, e: &CheckedExpr) -> Result<usize, Memory>
         ensures number { IfOk result (λ k. k ≡ number_of self.old e.now) }
         ensures atoms { OnOk result (self.new ≡ with_atom self.old e.now) }

@@ -1,17 +1,17 @@
 //! What a check tests, over the numbers of atoms.
-ghost use Rattle.deputy_types.specs.Numbering as spec;
-ghost use Rattle.deputy_types.specs.Numbering.{Leaves};
+ghost use Rattle.deputy_rules.specs.Numbering as spec;
+ghost use Rattle.deputy_rules.specs.Numbering.{Leaves};
 ghost use Rattle.std.specs.Prelude.{option_copied};
 
 use crate::Atoms;
 use crate::forming::{difference, single, whole};
 use checked_tree::{Cond, Part, Sum};
 use dep_expr::Ineq;
-use deputy_types::{AskedCond, Refusal};
+use deputy_rules::{AskedCond, Refusal};
 use std::alloc::Global;
 
 /// The left sum is at most the right one.
-#[tactic(auto, unfolding(deputy_types::specs::Numbering::at_most))]
+#[tactic(auto, unfolding(deputy_rules::specs::Numbering::at_most))]
 fn at_most(alloc: Global, atoms: &mut Atoms, left: &Sum, right: &Sum) -> Result<Cond, Refusal>
     ensures { Leaves (spec.at_most left.now right.now atoms.old) result atoms.new }
 {
@@ -20,7 +20,7 @@ fn at_most(alloc: Global, atoms: &mut Atoms, left: &Sum, right: &Sum) -> Result<
 }
 
 /// The left sum is at most the right one, or the guard is 0.
-#[tactic(auto, unfolding(deputy_types::specs::Numbering::guarded))]
+#[tactic(auto, unfolding(deputy_rules::specs::Numbering::guarded))]
 fn guarded(
     alloc: Global,
     atoms: &mut Atoms,
@@ -39,7 +39,7 @@ fn guarded(
 }
 
 /// The value lies a multiple of the size past the low bound, or the guard is 0.
-#[tactic(auto, unfolding(deputy_types::specs::Numbering::aligned))]
+#[tactic(auto, unfolding(deputy_rules::specs::Numbering::aligned))]
 fn aligned(
     alloc: Global,
     atoms: &mut Atoms,
@@ -56,7 +56,7 @@ fn aligned(
 }
 
 /// The byte at the address is not 0, or the new byte is 0 where there is one.
-#[tactic(auto, unfolding(deputy_types::specs::Numbering::term))]
+#[tactic(auto, unfolding(deputy_rules::specs::Numbering::term))]
 fn term(alloc: Global, atoms: &mut Atoms, at: &Sum, new: Option<&Part>) -> Result<Cond, Refusal>
     ensures { Leaves (spec.term at.now (option_copied new.entry) atoms.old) result atoms.new }
 {
@@ -71,7 +71,7 @@ fn term(alloc: Global, atoms: &mut Atoms, at: &Sum, new: Option<&Part>) -> Resul
 }
 
 /// The tag keeps its value, or the `size` bytes at the address are all 0. The new value is numbered first.
-#[tactic(auto, unfolding(deputy_types::specs::Numbering::kept))]
+#[tactic(auto, unfolding(deputy_rules::specs::Numbering::kept))]
 fn kept(
     alloc: Global,
     atoms: &mut Atoms,
@@ -89,7 +89,7 @@ fn kept(
 }
 
 /// The number is not 0.
-#[tactic(auto, unfolding(deputy_types::specs::Numbering::non_zero))]
+#[tactic(auto, unfolding(deputy_rules::specs::Numbering::non_zero))]
 fn non_zero(alloc: Global, atoms: &mut Atoms, part: &Part) -> Result<Cond, Refusal>
     ensures { Leaves (spec.non_zero part.now atoms.old) result atoms.new }
 {
@@ -98,7 +98,7 @@ fn non_zero(alloc: Global, atoms: &mut Atoms, part: &Part) -> Result<Cond, Refus
 }
 
 /// The number is this one.
-#[tactic(auto, unfolding(deputy_types::specs::Numbering::equal))]
+#[tactic(auto, unfolding(deputy_rules::specs::Numbering::equal))]
 fn equal(alloc: Global, atoms: &mut Atoms, part: &Part, z: i64) -> Result<Cond, Refusal>
     ensures { Leaves (spec.equal part.now z atoms.old) result atoms.new }
 {
@@ -107,7 +107,7 @@ fn equal(alloc: Global, atoms: &mut Atoms, part: &Part, z: i64) -> Result<Cond, 
 }
 
 /// What a check tests, over the numbers of atoms. `NoRule` where one of its forms is not light.
-#[tactic(auto, unfolding(deputy_types::specs::Numbering::conditioned))]
+#[tactic(auto, unfolding(deputy_rules::specs::Numbering::conditioned))]
 pub(crate) fn condition(
     alloc: Global,
     atoms: &mut Atoms,

@@ -1,14 +1,14 @@
 //! `Forming`: a linear form that is being added up from the parts of sums, and how far it weighs.
 ghost use Rattle.std.specs.Prelude.{◌≡◌, ◌≤◌, ◌^◌, ◌*ℤ◌, unsigned_abs, IfOk};
 ghost use Rattle.dep_expr.specs.Merged.{merged};
-ghost use Rattle.deputy_types.specs.Deriving.{Gives};
-ghost use Rattle.deputy_types.specs.Numbering as spec;
-ghost use Rattle.deputy_types.specs.Numbering.{Leaves};
+ghost use Rattle.deputy_rules.specs.Deriving.{Gives};
+ghost use Rattle.deputy_rules.specs.Numbering as spec;
+ghost use Rattle.deputy_rules.specs.Numbering.{Leaves};
 
 use crate::Atoms;
 use checked_tree::{Part, Sum};
 use dep_expr::Lin;
-use deputy_types::Refusal;
+use deputy_rules::Refusal;
 use sd_base::Memory;
 use std::alloc::Global;
 use std::marker::Model;
@@ -28,7 +28,7 @@ pub(crate) struct Forming {
 }
 
 impl Model for Forming {
-    ghost use Rattle.deputy_types.specs.Numbering.{Forming};
+    ghost use Rattle.deputy_rules.specs.Numbering.{Forming};
     ghost use Rattle.check_numbering.specs.Lightness.{IsLight};
 
     ghost Value = { Forming };
@@ -51,7 +51,7 @@ impl Forming {
     }
 
     /// A number more. `NoRule` where the form is not light then.
-    #[tactic(auto, unfolding(deputy_types::specs::Numbering::with_number))]
+    #[tactic(auto, unfolding(deputy_rules::specs::Numbering::with_number))]
     fn with_number(mut self, z: i128) -> Result<Forming, Refusal>
         requires { unsigned_abs z ≤ 2 ^ 126 }
         ensures { Gives (spec.with_number z self) result }
@@ -66,7 +66,7 @@ impl Forming {
     }
 
     /// So many times an atom more. `NoRule` where the form is not light then.
-    #[tactic(auto, unfolding(deputy_types::specs::Numbering::with_term))]
+    #[tactic(auto, unfolding(deputy_rules::specs::Numbering::with_term))]
     fn with_term(mut self, k: i128, atom: usize) -> Result<Forming, Refusal>
         requires { unsigned_abs k ≤ 2 ^ 63 }
         ensures { Gives (spec.with_term k atom self) result }
@@ -105,7 +105,7 @@ fn product(times: i64, value: i64) -> i128
 }
 
 /// One part more, of the left side or of the right one.
-#[tactic(auto, unfolding(deputy_types::specs::Numbering::with_part))]
+#[tactic(auto, unfolding(deputy_rules::specs::Numbering::with_part))]
 fn with_part(atoms: &mut Atoms, right: bool, form: Forming, part: &Part) -> Result<Forming, Refusal>
     ensures { Leaves (spec.with_part right part.now form atoms.old) result atoms.new }
 {
@@ -135,7 +135,7 @@ fn with_parts(
 }
 
 /// The left sum minus the right one, in merged form.
-#[tactic(auto, unfolding(deputy_types::specs::Numbering::difference))]
+#[tactic(auto, unfolding(deputy_rules::specs::Numbering::difference))]
 pub(crate) fn difference(
     alloc: Global,
     atoms: &mut Atoms,
@@ -151,7 +151,7 @@ pub(crate) fn difference(
 }
 
 /// One sum, in merged form.
-#[tactic(auto, unfolding(deputy_types::specs::Numbering::whole))]
+#[tactic(auto, unfolding(deputy_rules::specs::Numbering::whole))]
 pub(crate) fn whole(alloc: Global, atoms: &mut Atoms, sum: &Sum) -> Result<Lin, Refusal>
     ensures { Leaves (spec.whole sum.now atoms.old) result atoms.new }
 {
@@ -161,7 +161,7 @@ pub(crate) fn whole(alloc: Global, atoms: &mut Atoms, sum: &Sum) -> Result<Lin, 
 }
 
 /// One part, in merged form.
-#[tactic(auto, unfolding(deputy_types::specs::Numbering::single))]
+#[tactic(auto, unfolding(deputy_rules::specs::Numbering::single))]
 pub(crate) fn single(alloc: Global, atoms: &mut Atoms, part: &Part) -> Result<Lin, Refusal>
     ensures { Leaves (spec.single part.now atoms.old) result atoms.new }
 {

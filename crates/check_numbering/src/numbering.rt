@@ -1,16 +1,16 @@
 //! `number_checks`: the checks that a statement asks for, behind those of its function so far.
-ghost use Rattle.deputy_types.specs.Numbering as spec;
-ghost use Rattle.deputy_types.specs.Numbering.{Numbers};
+ghost use Rattle.deputy_rules.specs.Numbering as spec;
+ghost use Rattle.deputy_rules.specs.Numbering.{Numbers};
 
 use crate::Atoms;
 use crate::conditions::condition;
 use checked_tree::Check;
-use deputy_types::{Asked, Refusal};
+use deputy_rules::{Asked, Refusal};
 use sqlite_items::Items;
 use std::alloc::Global;
 
 /// One check more.
-#[tactic(auto, unfolding(deputy_types::specs::Numbering::with_check))]
+#[tactic(auto, unfolding(deputy_rules::specs::Numbering::with_check))]
 fn with_check(
     alloc: Global,
     atoms: &mut Atoms,

@@ -3,7 +3,7 @@ ghost use Rattle.std.specs.Prelude.{◌≡◌};
 ghost use Rattle.check_numbering.specs.Outcome.{refused_at};
 
 use c_tree::LimitKind;
-use deputy_types::Refusal;
+use deputy_rules::Refusal;
 use std::alloc::AllocError;
 
 /// Why a text is not derived. Of two refusals the one that stands earlier in the text is given.

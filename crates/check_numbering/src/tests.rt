@@ -1,7 +1,7 @@
 //! A function's checks as the written rules number them: atoms by first use, checks from 1, each form merged.
 use crate::{Atoms, number_checks};
 use checked_tree::{Check, CheckedExpr, Cond, Part, Sum};
-use deputy_types::{Asked, AskedCond};
+use deputy_rules::{Asked, AskedCond};
 use sd_base::{CheckKind, Memory};
 use sqlite_items::{Boxed, Items};
 use std::alloc::Global;

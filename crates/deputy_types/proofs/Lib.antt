@@ -1,9 +1,6 @@
 pub mod NameEquality
 pub mod ElementEquality
 pub mod MemberEquality
-pub mod RuleExamples
-pub mod StatementForms
-pub mod StatementExamples
 pub mod FoundBlocks
 pub mod KeyCounts
 pub mod DeclaredFacts
@@ -12,6 +9,4 @@ pub mod LayoutExamples
 pub mod Inversions
 pub mod TypeExtents
 pub mod MembersLie
-pub mod Nested
-pub mod SameExtent
-pub mod ZeroFits
+

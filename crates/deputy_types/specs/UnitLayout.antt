@@ -3,6 +3,7 @@ use Rattle.std.specs.Prelude.{◌≡◌, ℕ, ◌≤◌, ◌+◌, ◌-◌, ◌*�
 use Rattle.std.specs.List.{list_any}
 use Rattle.std.specs.Ordering.{int_eq}
 use Rattle.c_tree.specs.declared.items.Const.{Const}
+use Rattle.c_tree.specs.declared.items.Function.{Function}
 use Rattle.c_tree.specs.declared.items.GlobalItem.{GlobalItem}
 use Rattle.c_tree.specs.declared.items.Item.{Item}
 use Rattle.c_tree.specs.declared.items.Item.TheVariants as item
@@ -104,6 +105,14 @@ with_body d name line strings = record {
   bodies = d.bodies + 1;
   lines = d.lines ++ replicate (strings - length d.lines) line;
 }
+
+-- the functions with bodies, in text order
+abbrev pub functions_of : List Item → List Function
+functions_of [] = []
+functions_of (item.Struct s ∷ items) = functions_of items
+functions_of (item.Global g ∷ items) = functions_of items
+functions_of (item.Function f ∷ items) = f ∷ functions_of items
+functions_of (item.Prototype h ∷ items) = functions_of items
 
 -- with a function, behind which this many strings stand: the limits on bodies, and on globals and strings
 unfoldable pub with_function : Declared → List ℕ → ℕ → ℕ → Result Declared TypeRefusal

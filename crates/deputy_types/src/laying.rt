@@ -18,7 +18,7 @@ pub(crate) struct Scope<'a> {
 
 /// A struct so far.
 #[derive(Drop)]
-pub(crate) struct Laying {
+pub struct Laying {
     pub members: Items<Member>,
     pub unions: Items<UnionShape>,
     /// The names of the unions by number.
@@ -33,7 +33,7 @@ pub(crate) struct Laying {
 
 /// The arms of a union so far.
 #[derive(Drop)]
-pub(crate) struct Arms {
+pub struct Arms {
     /// The members of the struct, these arms last.
     pub members: Items<Member>,
     /// The number of the tag; none before the first arm.
@@ -44,7 +44,7 @@ pub(crate) struct Arms {
 
 /// A struct that was laid out.
 #[derive(Drop)]
-pub(crate) struct Laid {
+pub struct Laid {
     pub shape: StructShape,
     pub extent: Extent,
     pub names: StructNames,

@@ -15,7 +15,7 @@ use std::alloc::Global;
 
 /// A load image so far.
 #[derive(Drop)]
-pub(crate) struct Image {
+pub struct Image {
     pub blocks: Items<ImageBlock>,
     /// The end of the last block, at most 524,288; the bytes 0 to 15 are never granted.
     pub end: u32,

@@ -14,7 +14,7 @@ use std::alloc::Global;
 
 /// The declarations so far.
 #[derive(Drop)]
-pub(crate) struct Declared {
+pub struct Declared {
     /// The extents of the structs.
     pub extents: Items<Extent>,
     /// The names of globals, functions and prototypes.

@@ -19,7 +19,7 @@ use std::alloc::Global;
 
 /// The structs, laid out when the extents of all are known.
 #[derive(Drop)]
-pub(crate) struct Structs {
+pub struct Structs {
     pub shapes: Items<StructShape>,
     pub names: Items<StructNames>,
 }

@@ -9,8 +9,8 @@ use Rattle.c_tree.specs.Units.{HasNoItem, Reads}
 use Rattle.c_token.specs.declared.refusal.ReadRefusal.TheVariants as reading
 use Rattle.checked_tree.specs.declared.units.CheckedUnit.{CheckedUnit}
 use Rattle.deputy_types.specs.declared.refusal.TypeRefusal.{TypeRefusal}
-use Rattle.deputy_types.specs.Checking.{Fault, NoRule, Limit}
-use Rattle.deputy_types.specs.Functions.{checked}
+use Rattle.deputy_rules.specs.Checking.{Fault, NoRule, Limit}
+use Rattle.deputy_rules.specs.Functions.{checked}
 use Rattle.deputy_types.specs.Table.{Table}
 use Rattle.deputy_types.specs.UnitLayout.{layout}
 use Rattle.check_numbering.specs.declared.refusal.RuleRefusal.{RuleRefusal}

@@ -12,7 +12,8 @@ use Rattle.deputy_types.specs.Extents.{round_up_to}
 use Rattle.deputy_types.specs.UnitLayout.{image_end, next_base, with_block, global_block, with_global_block, with_global_blocks, string_block, with_string_block, with_string_blocks, empty_image, image_of}
 use Rattle.deputy_types.proofs.Inversions.{ok_then}
 use Rattle.layout_laws.specs.LoadImage.{AreInTurn, AreApart, IsWithinImage}
-use Rattle.layout_laws.proofs.Outcomes.{Declared, Image}
+use Rattle.deputy_types.specs.declared.unit_items.Declared.{Declared}
+use Rattle.deputy_types.specs.declared.load_image.Image.{Image}
 use Rattle.layout_laws.proofs.Steps.{else_ok}
 
 -- where blocks end that begin from an address on

@@ -13,7 +13,8 @@ use Rattle.deputy_types.specs.StructLayout.{or_no_decl, struct_laid}
 use Rattle.deputy_types.specs.UnitLayout.{IsDeclared, global_declared, with_global_shape, with_global, with_struct, with_taken, with_body, with_function, strings_behind, with_item, with_items}
 use Rattle.deputy_types.proofs.DeclaredFacts.{laid_number, struct_within, global_within, body_within}
 use Rattle.deputy_types.proofs.Inversions.{ok_then, ok_declared}
-use Rattle.layout_laws.proofs.Outcomes.{Laid, Declared}
+use Rattle.deputy_types.specs.declared.laying.Laid.{Laid}
+use Rattle.deputy_types.specs.declared.unit_items.Declared.{Declared}
 use Rattle.layout_laws.proofs.Steps.{else_ok}
 use Rattle.layout_laws.proofs.StructExtents.{laid_is_extent}
 

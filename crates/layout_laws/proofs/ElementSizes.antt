@@ -24,7 +24,7 @@ use Rattle.deputy_types.proofs.MembersLie.{laid_out-lies}
 use Rattle.layout_laws.specs.StructTable.{struct_items}
 use Rattle.layout_laws.proofs.FoundGrowth.{items_found}
 use Rattle.layout_laws.proofs.Lists.{slice_extended}
-use Rattle.layout_laws.proofs.Outcomes.{Laid}
+use Rattle.deputy_types.specs.declared.laying.Laid.{Laid}
 use Rattle.layout_laws.proofs.Steps.{types_in, found_in}
 use Rattle.layout_laws.proofs.StructsDeclared.{HasLayouts, laid_at, item_at}
 

@@ -23,7 +23,7 @@ use Rattle.layout_laws.specs.Lookups.{EachGlobalIsFound}
 use Rattle.layout_laws.proofs.Declarations.{adds_struct, adds_global, adds_body, item_within}
 use Rattle.layout_laws.proofs.GlobalsDeclared.{IsGlobalOf, globals_added}
 use Rattle.layout_laws.proofs.Lists.{zip_at}
-use Rattle.layout_laws.proofs.Outcomes.{Declared}
+use Rattle.deputy_types.specs.declared.unit_items.Declared.{Declared}
 use Rattle.deputy_types.proofs.DeclaredFacts.{with_name_length}
 use Rattle.layout_laws.proofs.Places.{AreFresh, fresh_at, named_at, element_at, with_name_new}
 use Rattle.layout_laws.proofs.Steps.{types_in, found_in, steps}

@@ -21,7 +21,7 @@ use Rattle.deputy_types.proofs.Inversions.{some_then, some_map, if_some, ok_then
 use Rattle.layout_laws.specs.LoadImage.{global_items}
 use Rattle.layout_laws.proofs.Declarations.{adds_struct, adds_global, adds_body}
 use Rattle.layout_laws.proofs.Lists.{Extends, extends_itself, extends_push, extends_twice}
-use Rattle.layout_laws.proofs.Outcomes.{Declared}
+use Rattle.deputy_types.specs.declared.unit_items.Declared.{Declared}
 
 -- ---- the extents only grow
 item_extends : (types : Types) (ends : List ℕ) (d : Declared) (x : Item) (next : Declared) → with_item types ends d x ≡ Ok next → Extends d.extents next.extents

@@ -13,7 +13,7 @@ use Rattle.checked_tree.specs.declared.shapes.StructShape.{StructShape}
 use Rattle.checked_tree.specs.declared.units.ImageBlock.{ImageBlock}
 use Rattle.deputy_types.specs.Fitting.{shape_size, elem_bytes, Part, whole, member, is_any, AreZero, AreNested, BytesFit}
 use Rattle.deputy_types.specs.Table.{Table}
-use Rattle.deputy_types.proofs.ZeroFits.{zero_fits}
+use Rattle.layout_laws.proofs.ZeroFits.{zero_fits}
 use Rattle.layout_laws.specs.FirstFits.{Holds, FitsAtFirst, EachBlockFitsAtFirst}
 use Rattle.layout_laws.specs.LoadImage.{global_items, text_strings, HoldsFirst, IsBlockOfGlobal, IsBlockOfString, HasImage}
 use Rattle.layout_laws.proofs.ImageLaws.{has_image}

@@ -1,4 +1,3 @@
-pub mod Outcomes
 pub mod Steps
 pub mod StructExtents
 pub mod Declarations
@@ -22,3 +21,6 @@ pub mod MemberNumbers
 pub mod ElementLaws
 pub mod Examples
 pub mod MemberTypeLaws
+pub mod Nested
+pub mod SameExtent
+pub mod ZeroFits

@@ -15,7 +15,7 @@ use Rattle.deputy_types.specs.declared.global.GlobalShape.{GlobalShape}
 use Rattle.deputy_types.specs.declared.refusal.TypeRefusal.TheVariants as refusal
 use Rattle.deputy_types.specs.declared.types.Types.{Types}
 use Rattle.deputy_types.specs.Extents.{no_extent, type_extent, round_up_to}
-use Rattle.deputy_types.specs.Functions.{functions_of}
+use Rattle.deputy_types.specs.UnitLayout.{functions_of}
 use Rattle.deputy_types.specs.StructLayout.{Surroundings, or_no_decl, field_declared, within_limits, placed, with_plain, arms_extent, with_arms_in_turn, is_new_union, with_union_of, with_union_arms, with_union_at, with_union, with_any_field, empty_struct, with_fields_in_turn, laid_out, struct_siblings}
 use Rattle.deputy_types.specs.Table.{Table}
 use Rattle.deputy_types.specs.UnitLayout.{nothing_declared, with_global_shape, with_taken, strings_behind, with_item, with_items, table_of}
@@ -26,7 +26,10 @@ use Rattle.layout_laws.proofs.Declarations.{adds_struct, adds_global, adds_body,
 use Rattle.layout_laws.proofs.GlobalsDeclared.{globals_added}
 use Rattle.layout_laws.proofs.ImageLaws.{has_image}
 use Rattle.layout_laws.proofs.Lists.{zip_length}
-use Rattle.layout_laws.proofs.Outcomes.{Arms, Declared, Laid, Laying}
+use Rattle.deputy_types.specs.declared.laying.Arms.{Arms}
+use Rattle.deputy_types.specs.declared.unit_items.Declared.{Declared}
+use Rattle.deputy_types.specs.declared.laying.Laid.{Laid}
+use Rattle.deputy_types.specs.declared.laying.Laying.{Laying}
 use Rattle.layout_laws.proofs.Steps.{types_in, found_in, steps}
 use Rattle.layout_laws.proofs.StringsFound.{lines_of}
 use Rattle.layout_laws.proofs.StructExtents.{laying_of, struct_laying, laid_is_extent}

@@ -33,7 +33,9 @@ use Rattle.deputy_types.proofs.Inversions.{some_then, some_map, ok_then, ok_decl
 use Rattle.layout_laws.specs.MemberLookups.{arm_names, member_names, union_names, look_up, EachMemberIsFound}
 use Rattle.layout_laws.specs.StructTable.{struct_items}
 use Rattle.layout_laws.proofs.GlobalNumbers.{if_true, not_true}
-use Rattle.layout_laws.proofs.Outcomes.{Arms, Laid, Laying}
+use Rattle.deputy_types.specs.declared.laying.Arms.{Arms}
+use Rattle.deputy_types.specs.declared.laying.Laid.{Laid}
+use Rattle.deputy_types.specs.declared.laying.Laying.{Laying}
 use Rattle.layout_laws.proofs.Places.{AreFresh, fresh_at, named_at, element_at, with_name_new}
 use Rattle.layout_laws.proofs.Steps.{types_in}
 use Rattle.layout_laws.proofs.StructExtents.{any_laying, empty_laying, laying_of}

@@ -33,7 +33,9 @@ use Rattle.deputy_types.proofs.Inversions.{some_then, some_map, if_some, ok_then
 use Rattle.layout_laws.specs.MemberShapes.{IsMemberShape, EachMemberHasItsType}
 use Rattle.layout_laws.specs.StructTable.{struct_items}
 use Rattle.layout_laws.proofs.GlobalNumbers.{if_true}
-use Rattle.layout_laws.proofs.Outcomes.{Arms, Laid, Laying}
+use Rattle.deputy_types.specs.declared.laying.Arms.{Arms}
+use Rattle.deputy_types.specs.declared.laying.Laid.{Laid}
+use Rattle.deputy_types.specs.declared.laying.Laying.{Laying}
 use Rattle.layout_laws.proofs.Steps.{types_in}
 use Rattle.layout_laws.proofs.StructExtents.{laying_of}
 use Rattle.layout_laws.proofs.StructsDeclared.{from_mapped, laid_at, item_at, layouts_of}

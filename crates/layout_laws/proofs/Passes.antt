@@ -15,8 +15,10 @@ use Rattle.deputy_types.specs.StructLaws.{AgreeBelow}
 use Rattle.deputy_types.specs.StructLayout.{struct_laid}
 use Rattle.deputy_types.specs.UnitLayout.{strings_behind, with_global_shape, with_taken, with_item, with_items, with_laid, with_next_struct, structs_of}
 use Rattle.deputy_types.proofs.Inversions.{ok_then}
-use Rattle.deputy_types.proofs.SameExtent.{same_extent}
-use Rattle.layout_laws.proofs.Outcomes.{Laid, Declared, Structs}
+use Rattle.layout_laws.proofs.SameExtent.{same_extent}
+use Rattle.deputy_types.specs.declared.laying.Laid.{Laid}
+use Rattle.deputy_types.specs.declared.unit_items.Declared.{Declared}
+use Rattle.deputy_types.specs.declared.unit_layout.Structs.{Structs}
 use Rattle.layout_laws.specs.StructTable.{struct_items}
 use Rattle.layout_laws.proofs.Declarations.{adds_struct, adds_global, adds_body}
 

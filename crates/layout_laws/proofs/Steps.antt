@@ -9,7 +9,9 @@ use Rattle.deputy_types.specs.StructLayout.{and_ok}
 use Rattle.deputy_types.specs.Table.{Table}
 use Rattle.deputy_types.specs.UnitLayout.{nothing_declared, with_items, image_of, no_structs, structs_of, table_of, table_behind, table_with, layout}
 use Rattle.deputy_types.proofs.Inversions.{ok_then}
-use Rattle.layout_laws.proofs.Outcomes.{Image, Declared, Structs}
+use Rattle.deputy_types.specs.declared.load_image.Image.{Image}
+use Rattle.deputy_types.specs.declared.unit_items.Declared.{Declared}
+use Rattle.deputy_types.specs.declared.unit_layout.Structs.{Structs}
 
 -- what a test refuses was not so
 pub record Passed {A : Type 0} (b : Bool) (r : Result A TypeRefusal) (a : A) : Type 0 where

@@ -12,7 +12,7 @@ use Rattle.deputy_types.proofs.Inversions.{ok_then}
 use Rattle.layout_laws.proofs.Declarations.{adds_struct, adds_global, adds_body}
 use Rattle.layout_laws.proofs.FoundGrowth.{FindsFunction, function_found, items_found}
 use Rattle.layout_laws.proofs.Lists.{Extends, slice_behind, slice_extended}
-use Rattle.layout_laws.proofs.Outcomes.{Declared}
+use Rattle.deputy_types.specs.declared.unit_items.Declared.{Declared}
 use Rattle.layout_laws.proofs.Steps.{types_in, found_in}
 
 -- the strings that stand before the end of a function

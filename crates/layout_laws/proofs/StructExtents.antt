@@ -16,7 +16,9 @@ use Rattle.deputy_types.specs.declared.types.Types.{Types}
 use Rattle.deputy_types.specs.Extents.{IsExtent, AreExtents, no_extent, type_extent, round_up_to}
 use Rattle.deputy_types.specs.StructLayout.{Surroundings, IsLaying, or_no_decl, field_declared, within_limits, placed, with_plain, arms_extent, with_arms_in_turn, is_new_union, with_union_of, with_union_arms, with_union_at, with_union, with_any_field, empty_struct, with_fields_in_turn, laid_out, head_of_struct, struct_siblings, laid_with, struct_laid}
 use Rattle.deputy_types.proofs.Inversions.{ok_then, if_ok, unless_ok}
-use Rattle.layout_laws.proofs.Outcomes.{Arms, Laid, Laying}
+use Rattle.deputy_types.specs.declared.laying.Arms.{Arms}
+use Rattle.deputy_types.specs.declared.laying.Laid.{Laid}
+use Rattle.deputy_types.specs.declared.laying.Laying.{Laying}
 use Rattle.layout_laws.proofs.Steps.{else_ok}
 use Rattle.deputy_types.proofs.TypeExtents.{IsAlign, align_of, max_align, no_extent_is, type_is_extent, arms_is_extent}
 

@@ -13,7 +13,7 @@ use Rattle.deputy_types.specs.Table.{structure}
 use Rattle.deputy_types.specs.Types.{struct_number}
 use Rattle.layout_laws.specs.Lookups.{EachStructIsFound}
 use Rattle.layout_laws.specs.StructTable.{struct_items}
-use Rattle.layout_laws.proofs.Outcomes.{Laid}
+use Rattle.deputy_types.specs.declared.laying.Laid.{Laid}
 use Rattle.deputy_types.proofs.DeclaredFacts.{with_name_length}
 use Rattle.layout_laws.proofs.Places.{named_at, element_at}
 use Rattle.layout_laws.proofs.Steps.{types_in}

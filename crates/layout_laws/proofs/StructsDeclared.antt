@@ -15,8 +15,8 @@ use Rattle.deputy_types.specs.StructLayout.{struct_laid}
 use Rattle.deputy_types.specs.Table.{Table}
 use Rattle.deputy_types.specs.UnitLayout.{IsDeclared, nothing_declared, no_structs, elem_shape, table_of, layout}
 use Rattle.deputy_types.proofs.MembersLie.{laid_out-lies}
-use Rattle.deputy_types.proofs.Nested.{nested}
-use Rattle.layout_laws.proofs.Outcomes.{Laid}
+use Rattle.layout_laws.proofs.Nested.{nested}
+use Rattle.deputy_types.specs.declared.laying.Laid.{Laid}
 use Rattle.layout_laws.specs.StructTable.{struct_items, HasStruct, EachStructIsDeclared, StructsAreNested}
 use Rattle.layout_laws.proofs.Declarations.{items_within}
 use Rattle.layout_laws.proofs.Passes.{AreLaid, extents_of, shapes_of, names_of, passes}

@@ -12,7 +12,7 @@ use Rattle.checked_tree.specs.declared.shapes.StructShape.{StructShape}
 use Rattle.checked_tree.specs.Numbers.{converted, scalar_size}
 use Rattle.deputy_types.specs.Fitting.{shape_size, Part, whole, member, is_any, place_value, AreZero, AreNested}
 use Rattle.deputy_types.specs.Table.{Table}
-use Rattle.deputy_types.proofs.ZeroFits.{zero_bytes, lies_in, zero_part, zero_fits}
+use Rattle.layout_laws.proofs.ZeroFits.{zero_bytes, lies_in, zero_part, zero_fits}
 use Rattle.layout_laws.specs.ZeroBytes.{AreNull, IsValidZero, ZeroIsValid}
 use Rattle.layout_laws.proofs.StructsDeclared.{structs_nested}
 

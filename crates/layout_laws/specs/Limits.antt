@@ -3,7 +3,7 @@ use Rattle.std.specs.Prelude.{◌≡◌, ℕ, ◌≤◌, length, All, Some, slic
 use Rattle.c_tree.specs.declared.items.StructItem.{StructItem}
 use Rattle.c_tree.specs.declared.items.Unit.{Unit as TextUnit}
 use Rattle.checked_tree.specs.declared.shapes.StructShape.{StructShape}
-use Rattle.deputy_types.specs.Functions.{functions_of}
+use Rattle.deputy_types.specs.UnitLayout.{functions_of}
 use Rattle.deputy_types.specs.Table.{Table}
 use Rattle.deputy_types.specs.UnitLayout.{layout}
 use Rattle.layout_laws.specs.StructTable.{struct_items}

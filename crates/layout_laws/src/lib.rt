@@ -5,6 +5,7 @@
 mod limits;
 mod load_image;
 mod lookups;
+mod struct_laws;
 mod structs;
 
 pub use limits::a_table_keeps_the_limits;
@@ -12,6 +13,9 @@ pub use load_image::{each_block_fits_at_first, each_global_and_string_has_its_bl
 pub use lookups::{
     a_global_is_found_by_its_name, a_member_is_found_by_its_name, a_string_is_found_by_its_place,
     a_struct_is_found_by_its_name,
+};
+pub use struct_laws::{
+    a_struct_is_laid_out, a_struct_keeps_its_extent, structs_are_nested, zero_bytes_fit,
 };
 pub use structs::{
     each_element_has_the_bytes_of_its_shape, each_member_has_its_type, structs_are_those_declared,

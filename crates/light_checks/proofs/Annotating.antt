@@ -12,12 +12,12 @@ use Rattle.checked_tree.specs.declared.shapes.Edge.{Edge}
 use Rattle.checked_tree.specs.declared.shapes.Member.{Member}
 use Rattle.checked_tree.specs.declared.shapes.Shape.{Shape}
 use Rattle.checked_tree.specs.declared.sums.Sum.{Sum}
-use Rattle.deputy_types.specs.declared.naming.Names.TheVariants as names
-use Rattle.deputy_types.specs.declared.naming.Naming.{Naming}
-use Rattle.deputy_types.specs.Context.{Context}
-use Rattle.deputy_types.specs.Sums.{plus, scaled, beyond, constant_part}
+use Rattle.deputy_rules.specs.declared.naming.Names.TheVariants as names
+use Rattle.deputy_rules.specs.declared.naming.Naming.{Naming}
+use Rattle.deputy_rules.specs.Context.{Context}
+use Rattle.deputy_rules.specs.Sums.{plus, scaled, beyond, constant_part}
 use Rattle.deputy_types.specs.Table.{member}
-use Rattle.deputy_types.specs.Values.{member_sum, named_sum, name_sum, with_terms, base_sum, edge_sum, low_sum, high_sum, of_slots, of_struct}
+use Rattle.deputy_rules.specs.Values.{member_sum, named_sum, name_sum, with_terms, base_sum, edge_sum, low_sum, high_sum, of_slots, of_struct}
 use Rattle.light_checks.specs.Lightness.{factors, constants}
 use Rattle.light_checks.specs.Weights.{IsAddress, IsBound, IsSingle}
 use Rattle.light_checks.specs.Within.{is_integer, shape_at, IsEdge, IsBounds}

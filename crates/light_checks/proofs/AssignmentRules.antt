@@ -14,26 +14,26 @@ use Rattle.checked_tree.specs.declared.shapes.Scalar.{Scalar}
 use Rattle.checked_tree.specs.declared.shapes.Scalar.TheVariants.{U8}
 use Rattle.checked_tree.specs.declared.shapes.Shape.{Shape}
 use Rattle.checked_tree.specs.declared.shapes.Shape.TheVariants as shape
-use Rattle.deputy_types.specs.declared.asked.AskedCond.TheVariants.{Term}
-use Rattle.deputy_types.specs.declared.derived.Derived.{Derived}
-use Rattle.deputy_types.specs.declared.derived.Derived.TheVariants as derived
-use Rattle.deputy_types.specs.declared.derived.Place.{Place}
-use Rattle.deputy_types.specs.declared.derived.Source.{Source}
-use Rattle.deputy_types.specs.declared.derived.Source.TheVariants as source
-use Rattle.deputy_types.specs.declared.derived.Whole.{Whole}
+use Rattle.deputy_rules.specs.declared.asked.AskedCond.TheVariants.{Term}
+use Rattle.deputy_rules.specs.declared.derived.Derived.{Derived}
+use Rattle.deputy_rules.specs.declared.derived.Derived.TheVariants as derived
+use Rattle.deputy_rules.specs.declared.derived.Place.{Place}
+use Rattle.deputy_rules.specs.declared.derived.Source.{Source}
+use Rattle.deputy_rules.specs.declared.derived.Source.TheVariants as source
+use Rattle.deputy_rules.specs.declared.derived.Whole.{Whole}
 use Rattle.deputy_types.specs.declared.element.Element.{Element}
 use Rattle.deputy_types.specs.declared.element.Element.TheVariants as element
-use Rattle.deputy_types.specs.declared.handed.Handed.{Handed}
-use Rattle.deputy_types.specs.Assignment.{assign_integer, assign_automatic, assign_annotated, assign_pointer, assign_local, store_counted, store_text, store_integer, store_element, store_byte, store_number, store_pointer, store_member, store_by, store, assign_to, assign}
-use Rattle.deputy_types.specs.Changes.{present, struct_names, shape_of}
-use Rattle.deputy_types.specs.Coercion.{converted_side, handed}
-use Rattle.deputy_types.specs.Context.{Context, slot_shape}
-use Rattle.deputy_types.specs.Deriving.{lift}
-use Rattle.deputy_types.specs.Expressions.{derive}
+use Rattle.deputy_rules.specs.declared.handed.Handed.{Handed}
+use Rattle.deputy_rules.specs.Assignment.{assign_integer, assign_automatic, assign_annotated, assign_pointer, assign_local, store_counted, store_text, store_integer, store_element, store_byte, store_number, store_pointer, store_member, store_by, store, assign_to, assign}
+use Rattle.deputy_rules.specs.Changes.{present, struct_names, shape_of}
+use Rattle.deputy_rules.specs.Coercion.{converted_side, handed}
+use Rattle.deputy_rules.specs.Context.{Context, slot_shape}
+use Rattle.deputy_rules.specs.Deriving.{lift}
+use Rattle.deputy_rules.specs.Expressions.{derive}
 use Rattle.deputy_types.specs.Keys.{IsKey}
-use Rattle.deputy_types.specs.Sums.{sum_of}
+use Rattle.deputy_rules.specs.Sums.{sum_of}
 use Rattle.deputy_types.specs.Table.{element_at, member, members_of}
-use Rattle.deputy_types.specs.Values.{integer_of, is_nullterm, container}
+use Rattle.deputy_rules.specs.Values.{integer_of, is_nullterm, container}
 use Rattle.light_checks.specs.Weights.{IsAddress, IsSingle, IsWhole, IsSource, IsDerived, IsHanded}
 use Rattle.light_checks.specs.Within.{is_integer, shape_at, IsShape, IsContext}
 use Rattle.light_checks.specs.Words.{IsReadable}

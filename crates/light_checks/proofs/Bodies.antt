@@ -19,13 +19,13 @@ use Rattle.checked_tree.specs.declared.expressions.CheckedExpr.{CheckedExpr}
 use Rattle.checked_tree.specs.declared.statements.CheckedStmt.{CheckedStmt}
 use Rattle.checked_tree.specs.declared.statements.CheckedStmt.TheVariants as checked_form
 use Rattle.c_tree.specs.Short.{IsShortExpr}
-use Rattle.deputy_types.specs.declared.asked.Asked.{Asked}
-use Rattle.deputy_types.specs.declared.signature.Returned.{Returned}
-use Rattle.deputy_types.specs.Checking.{Fault, NoRule, Checking, with_outcome, afterwards, done, in_turn}
-use Rattle.deputy_types.specs.Context.{Context}
-use Rattle.deputy_types.specs.Functions.{text_of, context_of, no_checks, finished, check_statements}
-use Rattle.deputy_types.specs.Numbering.{Numbered, numbered}
-use Rattle.deputy_types.specs.Statements.{Home, numbered_at, with_numbers, simple, condition, single, if_level, while_level, body_level, statement_level, check_statement, check_body, act, controlling, statement_context}
+use Rattle.deputy_rules.specs.declared.asked.Asked.{Asked}
+use Rattle.deputy_rules.specs.declared.signature.Returned.{Returned}
+use Rattle.deputy_rules.specs.Checking.{Fault, NoRule, Checking, with_outcome, afterwards, done, in_turn}
+use Rattle.deputy_rules.specs.Context.{Context}
+use Rattle.deputy_rules.specs.Functions.{text_of, context_of, no_checks, finished, check_statements}
+use Rattle.deputy_rules.specs.Numbering.{Numbered, numbered}
+use Rattle.deputy_rules.specs.Statements.{Home, numbered_at, with_numbers, simple, condition, single, if_level, while_level, body_level, statement_level, check_statement, check_body, act, controlling, statement_context}
 use Rattle.deputy_types.specs.Table.{Table}
 use Rattle.light_checks.specs.ShortActions.{HasShortParts}
 use Rattle.light_checks.specs.ShortUnits.{IsFunctionOf, home_of}

@@ -9,23 +9,23 @@ use Rattle.c_tree.specs.Spelling.{spelled}
 use Rattle.checked_tree.specs.declared.kernel.KernelName.{KernelName}
 use Rattle.checked_tree.specs.declared.shapes.Shape.{Shape}
 use Rattle.checked_tree.specs.declared.shapes.Shape.TheVariants as shape
-use Rattle.deputy_types.specs.declared.derived.Derived.{Derived}
-use Rattle.deputy_types.specs.declared.handed.Handed.{Handed}
-use Rattle.deputy_types.specs.declared.handed.Passed.{Passed}
-use Rattle.deputy_types.specs.declared.handed.Passed.TheVariants as passed
+use Rattle.deputy_rules.specs.declared.derived.Derived.{Derived}
+use Rattle.deputy_rules.specs.declared.handed.Handed.{Handed}
+use Rattle.deputy_rules.specs.declared.handed.Passed.{Passed}
+use Rattle.deputy_rules.specs.declared.handed.Passed.TheVariants as passed
 use Rattle.deputy_types.specs.declared.kernel_calls.ArgumentKind.{ArgumentKind}
 use Rattle.deputy_types.specs.declared.kernel_calls.ArgumentKind.TheVariants.{Number, Text, Handler}
-use Rattle.deputy_types.specs.declared.kernel_calls.KernelArguments.{KernelArguments}
-use Rattle.deputy_types.specs.declared.naming.Naming.{Naming}
-use Rattle.deputy_types.specs.declared.signature.Signature.{Signature}
-use Rattle.deputy_types.specs.Calls.{function_number, call_target, pass, pass_one, pass_each, passed_sum, coerce_shape, coerce_value, coerce_passed, coerce_each, of_arguments, call_function, kernel_result, handler, text_key, kernel_argument, kernel_arguments, no_arguments, call_kernel, call_numbered, call_named, call_by, call, kalloc_target, counted, elem_bytes, kalloc, freed_value, kfree}
-use Rattle.deputy_types.specs.Coercion.{converted_side, handed}
-use Rattle.deputy_types.specs.Context.{Context}
+use Rattle.deputy_rules.specs.declared.kernel_arguments.KernelArguments.{KernelArguments}
+use Rattle.deputy_rules.specs.declared.naming.Naming.{Naming}
+use Rattle.deputy_rules.specs.declared.signature.Signature.{Signature}
+use Rattle.deputy_rules.specs.Calls.{function_number, call_target, pass, pass_one, pass_each, passed_sum, coerce_shape, coerce_value, coerce_passed, coerce_each, of_arguments, call_function, kernel_result, handler, text_key, kernel_argument, kernel_arguments, no_arguments, call_kernel, call_numbered, call_named, call_by, call, kalloc_target, counted, elem_bytes, kalloc, freed_value, kfree}
+use Rattle.deputy_rules.specs.Coercion.{converted_side, handed}
+use Rattle.deputy_rules.specs.Context.{Context}
 use Rattle.deputy_types.specs.KernelCalls.{kernel_row, kernel_named}
 use Rattle.deputy_types.specs.Options.{and_then}
-use Rattle.deputy_types.specs.Sums.{sum_of}
+use Rattle.deputy_rules.specs.Sums.{sum_of}
 use Rattle.deputy_types.specs.Table.{elem, element_at}
-use Rattle.deputy_types.specs.Values.{integer_of, value_of, is_nullterm, nothing, named_sum, name_sum}
+use Rattle.deputy_rules.specs.Values.{integer_of, value_of, is_nullterm, nothing, named_sum, name_sum}
 use Rattle.deputy_types.proofs.Inversions.{some_then, some_map}
 use Rattle.light_checks.specs.Weights.{IsAddress, IsSmallPart, IsSingle, IsDerived, IsHanded}
 use Rattle.light_checks.specs.Within.{is_integer, shape_at, IsShape, AreShapes, IsContext}

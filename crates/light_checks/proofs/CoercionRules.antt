@@ -15,27 +15,27 @@ use Rattle.checked_tree.specs.declared.shapes.UnionShape.{UnionShape}
 use Rattle.checked_tree.specs.declared.sums.Part.{Part}
 use Rattle.checked_tree.specs.declared.sums.Part.TheVariants.{Constant}
 use Rattle.checked_tree.specs.declared.sums.Sum.{Sum}
-use Rattle.deputy_types.specs.declared.asked.AskedCond.TheVariants.{Guarded, Aligned, Kept}
-use Rattle.deputy_types.specs.declared.derived.Derived.{Derived}
-use Rattle.deputy_types.specs.declared.derived.Place.{Place}
-use Rattle.deputy_types.specs.declared.derived.Pointed.{Pointed}
-use Rattle.deputy_types.specs.declared.derived.Value.{Value}
-use Rattle.deputy_types.specs.declared.derived.Value.TheVariants as value
-use Rattle.deputy_types.specs.declared.derived.Whole.{Whole}
+use Rattle.deputy_rules.specs.declared.asked.AskedCond.TheVariants.{Guarded, Aligned, Kept}
+use Rattle.deputy_rules.specs.declared.derived.Derived.{Derived}
+use Rattle.deputy_rules.specs.declared.derived.Place.{Place}
+use Rattle.deputy_rules.specs.declared.derived.Pointed.{Pointed}
+use Rattle.deputy_rules.specs.declared.derived.Value.{Value}
+use Rattle.deputy_rules.specs.declared.derived.Value.TheVariants as value
+use Rattle.deputy_rules.specs.declared.derived.Whole.{Whole}
 use Rattle.deputy_types.specs.declared.element.Element.{Element}
-use Rattle.deputy_types.specs.declared.handed.Handed.{Handed}
-use Rattle.deputy_types.specs.declared.naming.Names.{Names}
-use Rattle.deputy_types.specs.declared.naming.Names.TheVariants as names
-use Rattle.deputy_types.specs.declared.naming.Naming.{Naming}
-use Rattle.deputy_types.specs.Changes.{present, changed, pointer_change, sibling_change, optional_change, sibling_changes, slot_changes, shape_of, struct_names, member_changes, unions_of, tagged, union_address, loaded, ask_kept, optional_kept, tag_change}
-use Rattle.deputy_types.specs.Coercion.{has_all, cast_part, side_by, converted_side, null, handed_over, handed_value, handed, ask_aligned, coerce, coerce_within, coerce_to, coerce_counted}
-use Rattle.deputy_types.specs.Context.{Context, slot_shape}
-use Rattle.deputy_types.specs.Operators.{same_truth}
-use Rattle.deputy_types.specs.Pointers.{is_written}
-use Rattle.deputy_types.specs.Sums.{constant, constant_of, atom_part, with_part, beyond}
+use Rattle.deputy_rules.specs.declared.handed.Handed.{Handed}
+use Rattle.deputy_rules.specs.declared.naming.Names.{Names}
+use Rattle.deputy_rules.specs.declared.naming.Names.TheVariants as names
+use Rattle.deputy_rules.specs.declared.naming.Naming.{Naming}
+use Rattle.deputy_rules.specs.Changes.{present, changed, pointer_change, sibling_change, optional_change, sibling_changes, slot_changes, shape_of, struct_names, member_changes, unions_of, tagged, union_address, loaded, ask_kept, optional_kept, tag_change}
+use Rattle.deputy_rules.specs.Coercion.{has_all, cast_part, side_by, converted_side, null, handed_over, handed_value, handed, ask_aligned, coerce, coerce_within, coerce_to, coerce_counted}
+use Rattle.deputy_rules.specs.Context.{Context, slot_shape}
+use Rattle.deputy_rules.specs.Operators.{same_truth}
+use Rattle.deputy_rules.specs.Pointers.{is_written}
+use Rattle.deputy_rules.specs.Sums.{constant, constant_of, atom_part, with_part, beyond}
 use Rattle.deputy_types.specs.Table.{bounds_name, element_at, members_of}
 use Rattle.deputy_types.specs.Types.{same_element}
-use Rattle.deputy_types.specs.Values.{value_of, size_of, low_sum, high_sum, name_sum, named_sum, container}
+use Rattle.deputy_rules.specs.Values.{value_of, size_of, low_sum, high_sum, name_sum, named_sum, container}
 use Rattle.deputy_types.proofs.Inversions.{some_then}
 use Rattle.light_checks.specs.Lightness.{IsLight}
 use Rattle.light_checks.specs.Weights.{IsAddress, IsBound, IsSmallPart, IsSingle, IsWhole, IsPointed, IsValue, IsDerived, IsHanded}

@@ -30,8 +30,8 @@ use Rattle.deputy_types.specs.declared.siblings.Siblings.{Siblings}
 use Rattle.deputy_types.specs.declared.types.Types.{Types}
 use Rattle.deputy_types.specs.Declarations.{shape_behind, typed_shape, is_text, numbered_role, role_behind, role_by, declared_role}
 use Rattle.deputy_types.specs.Extents.{key_extent}
-use Rattle.deputy_types.specs.Heads.{with_parameters, parameter_siblings, with_locals, local_siblings, value_shape, named_shape, parameter_shape, local_shape, parameter_shapes, with_hidden, slot_shapes, is_over, is_declared, declaration_stands, wrong_parameter, wrong_local, or_else, wrong_declaration}
-use Rattle.deputy_types.specs.Agreement.{same_place}
+use Rattle.deputy_rules.specs.Heads.{with_parameters, parameter_siblings, with_locals, local_siblings, value_shape, named_shape, parameter_shape, local_shape, parameter_shapes, with_hidden, slot_shapes, is_over, is_declared, declaration_stands, wrong_parameter, wrong_local, or_else, wrong_declaration}
+use Rattle.deputy_rules.specs.Agreement.{same_place}
 use Rattle.deputy_types.specs.Options.{and_then}
 use Rattle.deputy_types.specs.Siblings.{is_member, sibling_number, role_of, is_new_member, with_member, with_sibling, no_siblings}
 use Rattle.deputy_types.specs.Table.{Table}

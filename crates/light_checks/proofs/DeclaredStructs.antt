@@ -33,7 +33,7 @@ use Rattle.deputy_types.specs.declared.sibling.Role.TheVariants as role
 use Rattle.deputy_types.specs.declared.sibling.Unannotated.TheVariants as unannotated
 use Rattle.deputy_types.specs.declared.siblings.Siblings.{Siblings}
 use Rattle.deputy_types.specs.declared.types.Types.{Types}
-use Rattle.deputy_types.specs.Changes.{shape_of}
+use Rattle.deputy_rules.specs.Changes.{shape_of}
 use Rattle.deputy_types.specs.Declarations.{typed_shape, declared_role}
 use Rattle.deputy_types.specs.Extents.{IsExtent, AreExtents, natural, no_extent, key_extent, stars_extent, type_extent, round_up_to, greater}
 use Rattle.deputy_types.specs.Options.{and_then}
@@ -49,7 +49,9 @@ use Rattle.light_checks.proofs.DeclaredSlots.{role_integer, not_before, joined, 
 use Rattle.light_checks.proofs.Ensuring.{some_same, given}
 use Rattle.layout_laws.proofs.Lists.{slice_front}
 use Rattle.layout_laws.proofs.MemberNumbers.{first_number}
-use Rattle.layout_laws.proofs.Outcomes.{Laying, Arms, Laid}
+use Rattle.deputy_types.specs.declared.laying.Laying.{Laying}
+use Rattle.deputy_types.specs.declared.laying.Arms.{Arms}
+use Rattle.deputy_types.specs.declared.laying.Laid.{Laid}
 
 -- ---- extents
 rounded_small : (align n : ℕ) → 1 ≤ align → align ≤ 4 → align ≢ 3 → n ≤ 65536 → round_up_to align n ≤ 65536

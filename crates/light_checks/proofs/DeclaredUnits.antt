@@ -24,7 +24,7 @@ use Rattle.deputy_types.specs.declared.refusal.TypeRefusal.{TypeRefusal}
 use Rattle.deputy_types.specs.declared.refusal.TypeRefusal.TheVariants as refusal
 use Rattle.deputy_types.specs.declared.struct_names.StructNames.{StructNames}
 use Rattle.deputy_types.specs.declared.types.Types.{Types}
-use Rattle.deputy_types.specs.Changes.{shape_of}
+use Rattle.deputy_rules.specs.Changes.{shape_of}
 use Rattle.deputy_types.specs.Extents.{IsExtent, AreExtents, struct_extent, key_extent}
 use Rattle.deputy_types.specs.Keys.{IsKey}
 use Rattle.deputy_types.specs.MemberTypes.{arm_keys, keys_of, member_keys}
@@ -41,7 +41,10 @@ use Rattle.light_checks.specs.Within.{AreShapes, IsTable}
 use Rattle.light_checks.proofs.Annotating.{looked_up}
 use Rattle.light_checks.proofs.DeclaredStructs.{count_small, AreReadableFields, count_members, struct_within}
 use Rattle.light_checks.proofs.Ensuring.{given}
-use Rattle.layout_laws.proofs.Outcomes.{Laid, Declared, Image, Structs}
+use Rattle.deputy_types.specs.declared.laying.Laid.{Laid}
+use Rattle.deputy_types.specs.declared.unit_items.Declared.{Declared}
+use Rattle.deputy_types.specs.declared.load_image.Image.{Image}
+use Rattle.deputy_types.specs.declared.unit_layout.Structs.{Structs}
 
 pub ok_same : {A : Type 0} (a b : A) → ◌≡◌ {A = Result A TypeRefusal} (Ok a) (Ok b) → a ≡ b
 ok_same a b h = cc

@@ -5,12 +5,12 @@ use Rattle.c_tree.specs.declared.statements.Action.{Action}
 use Rattle.c_tree.specs.Short.{IsShortExpr}
 use Rattle.checked_tree.specs.declared.expressions.CheckedExpr.{CheckedExpr}
 use Rattle.checked_tree.specs.declared.statements.CheckedStmt.{CheckedStmt}
-use Rattle.deputy_types.specs.declared.asked.Asked.{Asked}
-use Rattle.deputy_types.specs.declared.derived.Derived.{Derived}
-use Rattle.deputy_types.specs.Context.{Context}
-use Rattle.deputy_types.specs.Expressions.{derive}
-use Rattle.deputy_types.specs.Numbering.{Numbered, numbered}
-use Rattle.deputy_types.specs.Statements.{Home, act, controlling}
+use Rattle.deputy_rules.specs.declared.asked.Asked.{Asked}
+use Rattle.deputy_rules.specs.declared.derived.Derived.{Derived}
+use Rattle.deputy_rules.specs.Context.{Context}
+use Rattle.deputy_rules.specs.Expressions.{derive}
+use Rattle.deputy_rules.specs.Numbering.{Numbered, numbered}
+use Rattle.deputy_rules.specs.Statements.{Home, act, controlling}
 use Rattle.light_checks.specs.ShortActions.{HasShortParts}
 use Rattle.light_checks.specs.Weights.{IsDerived}
 use Rattle.light_checks.specs.Within.{IsContext, IsHome}

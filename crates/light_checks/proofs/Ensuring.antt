@@ -2,10 +2,10 @@
 use Rattle.std.proofs.Common.{◌≡◌, ◌+◌, Bool, true, false, List, [], ◌∷◌, ◌++◌, length, Option, Some, if◌then◌else◌, All, refl, ap, subst}
 use Rattle.std.proofs.lemmas.List.Elements.{All-push}
 use Rattle.sd_base.specs.declared.kinds.CheckKind.{CheckKind}
-use Rattle.deputy_types.specs.declared.asked.Asked.{Asked}
-use Rattle.deputy_types.specs.declared.asked.AskedCond.{AskedCond}
-use Rattle.deputy_types.specs.Context.{Context}
-use Rattle.deputy_types.specs.Deriving.{Deriving, bind, pure, none, lift, ask}
+use Rattle.deputy_rules.specs.declared.asked.Asked.{Asked}
+use Rattle.deputy_rules.specs.declared.asked.AskedCond.{AskedCond}
+use Rattle.deputy_rules.specs.Context.{Context}
+use Rattle.deputy_rules.specs.Deriving.{Deriving, bind, pure, none, lift, ask}
 use Rattle.deputy_types.proofs.Inversions.{some_then}
 use Rattle.light_checks.specs.Lightness.{IsLightCond, IsLightCheck}
 

@@ -2,8 +2,8 @@
 use Rattle.std.proofs.Common.{◌≡◌, ◌^◌, [], ◌∷◌, None, pos, negsuc, refl}
 use Rattle.checked_tree.specs.declared.expressions.CheckedExpr.TheVariants as form
 use Rattle.checked_tree.specs.declared.sums.Part.TheVariants.{Constant, Atom}
-use Rattle.deputy_types.specs.declared.asked.AskedCond.TheVariants as asked
-use Rattle.deputy_types.specs.Numbering.{with_term, with_part, single, non_zero, conditioned}
+use Rattle.deputy_rules.specs.declared.asked.AskedCond.TheVariants as asked
+use Rattle.deputy_rules.specs.Numbering.{with_term, with_part, single, non_zero, conditioned}
 use Rattle.light_checks.specs.Lightness.{factors, constants}
 
 -- `-2*x + 3*y + 5 - 4*7`: the factors 2 and 3, the constants 5 and 28

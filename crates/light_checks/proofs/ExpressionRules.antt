@@ -9,13 +9,13 @@ use Rattle.c_tree.specs.declared.words.Word.{Word}
 use Rattle.c_tree.specs.declared.words.Word.TheVariants as word
 use Rattle.c_tree.specs.declared.signs.Sign.TheVariants as sign
 use Rattle.c_tree.specs.Spelling.{a_sign, a_name, in_parentheses, type_words, binary_sign, unary_sign, expression_words, spelled}
-use Rattle.deputy_types.specs.declared.derived.Derived.{Derived}
-use Rattle.deputy_types.specs.Context.{Context}
-use Rattle.deputy_types.specs.Deriving.{Deriving, bind, lift}
-use Rattle.deputy_types.specs.Expressions.{level, derive, size_of_type, arrow, subscript}
-use Rattle.deputy_types.specs.Operators.{cast, binary}
-use Rattle.deputy_types.specs.Places.{named, dotted}
-use Rattle.deputy_types.specs.Pointers.{string}
+use Rattle.deputy_rules.specs.declared.derived.Derived.{Derived}
+use Rattle.deputy_rules.specs.Context.{Context}
+use Rattle.deputy_rules.specs.Deriving.{Deriving, bind, lift}
+use Rattle.deputy_rules.specs.Expressions.{level, derive, size_of_type, arrow, subscript}
+use Rattle.deputy_rules.specs.Operators.{cast, binary}
+use Rattle.deputy_rules.specs.Places.{named, dotted}
+use Rattle.deputy_rules.specs.Pointers.{string}
 use Rattle.light_checks.specs.Weights.{IsDerived}
 use Rattle.light_checks.specs.Within.{IsContext}
 use Rattle.light_checks.specs.Words.{IsSmallWord, IsReadable}

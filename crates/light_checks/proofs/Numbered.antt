@@ -9,10 +9,10 @@ use Rattle.checked_tree.specs.declared.expressions.CheckedExpr.{CheckedExpr}
 use Rattle.checked_tree.specs.declared.sums.Part.{Part}
 use Rattle.checked_tree.specs.declared.sums.Part.TheVariants.{Constant, Atom}
 use Rattle.checked_tree.specs.declared.sums.Sum.{Sum}
-use Rattle.deputy_types.specs.declared.asked.Asked.{Asked}
-use Rattle.deputy_types.specs.declared.asked.AskedCond.{AskedCond}
-use Rattle.deputy_types.specs.declared.asked.AskedCond.TheVariants as asked
-use Rattle.deputy_types.specs.Numbering.{Forming, unformed, if_light, with_number, with_term, with_atom, number_of, signed, with_part, with_parts, difference, whole, single, at_most, guarded, aligned, non_zero, equal, term, kept, conditioned, Numbered, with_check, numbered}
+use Rattle.deputy_rules.specs.declared.asked.Asked.{Asked}
+use Rattle.deputy_rules.specs.declared.asked.AskedCond.{AskedCond}
+use Rattle.deputy_rules.specs.declared.asked.AskedCond.TheVariants as asked
+use Rattle.deputy_rules.specs.Numbering.{Forming, unformed, if_light, with_number, with_term, with_atom, number_of, signed, with_part, with_parts, difference, whole, single, at_most, guarded, aligned, non_zero, equal, term, kept, conditioned, Numbered, with_check, numbered}
 use Rattle.deputy_types.specs.Options.{and_then}
 use Rattle.light_checks.specs.Lightness.{part_factor, part_constant, factors, constants, IsLight, IsLightPart, IsLightNew, IsLightCond, IsLightCheck}
 

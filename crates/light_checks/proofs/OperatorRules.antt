@@ -18,26 +18,26 @@ use Rattle.checked_tree.specs.declared.expressions.Unary.TheVariants as checked_
 use Rattle.checked_tree.specs.declared.shapes.Scalar.{Scalar}
 use Rattle.checked_tree.specs.declared.shapes.Scalar.TheVariants as scalar
 use Rattle.checked_tree.specs.Numbers.{low_bits, converted}
-use Rattle.deputy_types.specs.declared.asked.AskedCond.TheVariants as cond
-use Rattle.deputy_types.specs.declared.derived.Derived.{Derived}
-use Rattle.deputy_types.specs.declared.derived.Pointed.{Pointed}
-use Rattle.deputy_types.specs.declared.derived.Value.{Value}
-use Rattle.deputy_types.specs.declared.derived.Value.TheVariants as value
-use Rattle.deputy_types.specs.declared.derived.Whole.{Whole}
-use Rattle.deputy_types.specs.declared.derived.Written.{Written}
-use Rattle.deputy_types.specs.declared.derived.Written.TheVariants as written
+use Rattle.deputy_rules.specs.declared.asked.AskedCond.TheVariants as cond
+use Rattle.deputy_rules.specs.declared.derived.Derived.{Derived}
+use Rattle.deputy_rules.specs.declared.derived.Pointed.{Pointed}
+use Rattle.deputy_rules.specs.declared.derived.Value.{Value}
+use Rattle.deputy_rules.specs.declared.derived.Value.TheVariants as value
+use Rattle.deputy_rules.specs.declared.derived.Whole.{Whole}
+use Rattle.deputy_rules.specs.declared.derived.Written.{Written}
+use Rattle.deputy_rules.specs.declared.derived.Written.TheVariants as written
 use Rattle.deputy_types.specs.declared.element.Element.{Element}
-use Rattle.deputy_types.specs.declared.families.Family.{Family}
-use Rattle.deputy_types.specs.declared.families.Family.TheVariants as family
-use Rattle.deputy_types.specs.Context.{Context}
-use Rattle.deputy_types.specs.Expressions.{size_of_type, arrow, subscript}
+use Rattle.deputy_rules.specs.declared.families.Family.{Family}
+use Rattle.deputy_rules.specs.declared.families.Family.TheVariants as family
+use Rattle.deputy_rules.specs.Context.{Context}
+use Rattle.deputy_rules.specs.Expressions.{size_of_type, arrow, subscript}
 use Rattle.deputy_types.specs.Extents.{key_extent, stars_extent}
-use Rattle.deputy_types.specs.Operators.{constant_of_type, computed, number, character, size_constant, on_one, negative_by, negative, negation, not_by, minus, on_integer, not_of, dereferenced, unary, integer_type, cast_to, cast_by, cast, family_of, divided, addresses_compared, joined, on_integers, pointer_plus, moved_unless_text, compared_with_zero, zero_compared, on_pointer_and_integer, on_integer_and_pointer, alike, on_pointers, pointer_and_null, null_and_pointer, on_null, on_values, binary}
-use Rattle.deputy_types.specs.Pointers.{is_written, address_of}
-use Rattle.deputy_types.specs.Sums.{constant_of, side}
+use Rattle.deputy_rules.specs.Operators.{constant_of_type, computed, number, character, size_constant, on_one, negative_by, negative, negation, not_by, minus, on_integer, not_of, dereferenced, unary, integer_type, cast_to, cast_by, cast, family_of, divided, addresses_compared, joined, on_integers, pointer_plus, moved_unless_text, compared_with_zero, zero_compared, on_pointer_and_integer, on_integer_and_pointer, alike, on_pointers, pointer_and_null, null_and_pointer, on_null, on_values, binary}
+use Rattle.deputy_rules.specs.Pointers.{is_written, address_of}
+use Rattle.deputy_rules.specs.Sums.{constant_of, side}
 use Rattle.deputy_types.specs.Table.{size}
 use Rattle.deputy_types.specs.Types.{base_key, are_constant, is_char}
-use Rattle.deputy_types.specs.Values.{value_of, pointer_of, integer_of}
+use Rattle.deputy_rules.specs.Values.{value_of, pointer_of, integer_of}
 use Rattle.deputy_types.proofs.Inversions.{some_then, some_map, if_some}
 use Rattle.light_checks.specs.Weights.{IsWhole, IsPointed, IsValue, IsDerived}
 use Rattle.light_checks.specs.Within.{IsContext}

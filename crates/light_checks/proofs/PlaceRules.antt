@@ -8,27 +8,27 @@ use Rattle.checked_tree.specs.declared.shapes.Member.{Member}
 use Rattle.checked_tree.specs.declared.sums.Sum.{Sum}
 use Rattle.checked_tree.specs.declared.units.ImageBlock.{ImageBlock}
 use Rattle.c_tree.specs.Slots.{slot_named}
-use Rattle.deputy_types.specs.declared.asked.AskedCond.TheVariants as cond
-use Rattle.deputy_types.specs.declared.derived.Derived.{Derived}
-use Rattle.deputy_types.specs.declared.derived.Derived.TheVariants as derived
-use Rattle.deputy_types.specs.declared.derived.FoundArm.{FoundArm}
-use Rattle.deputy_types.specs.declared.derived.Place.{Place}
-use Rattle.deputy_types.specs.declared.derived.Pointed.{Pointed}
-use Rattle.deputy_types.specs.declared.derived.Source.{Source}
-use Rattle.deputy_types.specs.declared.derived.Source.TheVariants as source
-use Rattle.deputy_types.specs.declared.derived.UnionPlace.{UnionPlace}
-use Rattle.deputy_types.specs.declared.derived.Value.TheVariants as value
-use Rattle.deputy_types.specs.declared.derived.Whole.{Whole}
+use Rattle.deputy_rules.specs.declared.asked.AskedCond.TheVariants as cond
+use Rattle.deputy_rules.specs.declared.derived.Derived.{Derived}
+use Rattle.deputy_rules.specs.declared.derived.Derived.TheVariants as derived
+use Rattle.deputy_rules.specs.declared.derived.FoundArm.{FoundArm}
+use Rattle.deputy_rules.specs.declared.derived.Place.{Place}
+use Rattle.deputy_rules.specs.declared.derived.Pointed.{Pointed}
+use Rattle.deputy_rules.specs.declared.derived.Source.{Source}
+use Rattle.deputy_rules.specs.declared.derived.Source.TheVariants as source
+use Rattle.deputy_rules.specs.declared.derived.UnionPlace.{UnionPlace}
+use Rattle.deputy_rules.specs.declared.derived.Value.TheVariants as value
+use Rattle.deputy_rules.specs.declared.derived.Whole.{Whole}
 use Rattle.deputy_types.specs.declared.element.Element.{Element}
 use Rattle.deputy_types.specs.declared.table.GlobalPlace.{GlobalPlace}
-use Rattle.deputy_types.specs.Context.{Context, slot_shape}
+use Rattle.deputy_rules.specs.Context.{Context, slot_shape}
 use Rattle.deputy_types.specs.Keys.{IsKey}
 use Rattle.deputy_types.specs.Options.{and_then}
-use Rattle.deputy_types.specs.Places.{block_place, global_place, named_by, named, not_null_by, not_null, through, through_text, followed, is_unsigned, not_below, not_above, moved_sum, index_checks, indexed, struct_of, plain_member, array_member, member_at, member_place, union_place, part_by, part_of, found_with, found_in, found_member, found_arm, arm_at, arm_place, dotted}
-use Rattle.deputy_types.specs.Pointers.{string_at, string, addressed_member, addressed, address_at, address_of_place, address_of, has_address, step_size, may_fall, may_rise, move_checks, moved, is_written, not_ended, text_checks, text_moved, text_stepped, text_sum, text_second, text_indexed, indexed_by}
-use Rattle.deputy_types.specs.Sums.{constant, beyond}
+use Rattle.deputy_rules.specs.Places.{block_place, global_place, named_by, named, not_null_by, not_null, through, through_text, followed, is_unsigned, not_below, not_above, moved_sum, index_checks, indexed, struct_of, plain_member, array_member, member_at, member_place, union_place, part_by, part_of, found_with, found_in, found_member, found_arm, arm_at, arm_place, dotted}
+use Rattle.deputy_rules.specs.Pointers.{string_at, string, addressed_member, addressed, address_at, address_of_place, address_of, has_address, step_size, may_fall, may_rise, move_checks, moved, is_written, not_ended, text_checks, text_moved, text_stepped, text_sum, text_second, text_indexed, indexed_by}
+use Rattle.deputy_rules.specs.Sums.{constant, beyond}
 use Rattle.deputy_types.specs.Table.{element_at, field, union_of, arm, global, literal, member, member_key, union_shape, is_array}
-use Rattle.deputy_types.specs.Values.{size_of, member_part}
+use Rattle.deputy_rules.specs.Values.{size_of, member_part}
 use Rattle.deputy_types.proofs.Inversions.{some_then, some_map, if_some}
 use Rattle.light_checks.specs.Lightness.{IsLight}
 use Rattle.light_checks.specs.Weights.{IsAddress, IsWhole, IsPointed, IsSource, IsPlace, IsDerived}

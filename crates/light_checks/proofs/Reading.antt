@@ -18,23 +18,23 @@ use Rattle.checked_tree.specs.declared.sums.Part.TheVariants.{Constant}
 use Rattle.checked_tree.specs.declared.sums.Sum.{Sum}
 use Rattle.checked_tree.specs.Numbers.{is_between}
 use Rattle.c_tree.specs.Slots.{hidden_slot}
-use Rattle.deputy_types.specs.declared.derived.Derived.{Derived}
-use Rattle.deputy_types.specs.declared.derived.Derived.TheVariants as derived
-use Rattle.deputy_types.specs.declared.derived.Pointed.{Pointed}
-use Rattle.deputy_types.specs.declared.derived.Source.{Source}
-use Rattle.deputy_types.specs.declared.derived.Source.TheVariants as source
-use Rattle.deputy_types.specs.declared.derived.Value.{Value}
-use Rattle.deputy_types.specs.declared.derived.Value.TheVariants as value
-use Rattle.deputy_types.specs.declared.derived.Whole.{Whole}
+use Rattle.deputy_rules.specs.declared.derived.Derived.{Derived}
+use Rattle.deputy_rules.specs.declared.derived.Derived.TheVariants as derived
+use Rattle.deputy_rules.specs.declared.derived.Pointed.{Pointed}
+use Rattle.deputy_rules.specs.declared.derived.Source.{Source}
+use Rattle.deputy_rules.specs.declared.derived.Source.TheVariants as source
+use Rattle.deputy_rules.specs.declared.derived.Value.{Value}
+use Rattle.deputy_rules.specs.declared.derived.Value.TheVariants as value
+use Rattle.deputy_rules.specs.declared.derived.Whole.{Whole}
 use Rattle.deputy_types.specs.declared.element.Element.{Element}
 use Rattle.deputy_types.specs.declared.element.Element.TheVariants as element
-use Rattle.deputy_types.specs.declared.naming.Naming.{Naming}
-use Rattle.deputy_types.specs.Changes.{shape_of}
-use Rattle.deputy_types.specs.Context.{Context, slot_shape}
+use Rattle.deputy_rules.specs.declared.naming.Naming.{Naming}
+use Rattle.deputy_rules.specs.Changes.{shape_of}
+use Rattle.deputy_rules.specs.Context.{Context, slot_shape}
 use Rattle.deputy_types.specs.Keys.{IsKey}
-use Rattle.deputy_types.specs.Sums.{atom, with_part}
+use Rattle.deputy_rules.specs.Sums.{atom, with_part}
 use Rattle.deputy_types.specs.Table.{element_at, member, members_of}
-use Rattle.deputy_types.specs.Values.{size_of, slot_sum, integer, pointer_to, bounded_pointer, hidden_pointer, of_slots, of_struct, local_pointer, slot_value, local_value, counted_pointer, text_pointer, element_value, container, member_value, source_value, array_value, value_of, whole, pointed, integer_of, pointer_of, is_nullterm, low_sum, high_sum, address}
+use Rattle.deputy_rules.specs.Values.{size_of, slot_sum, integer, pointer_to, bounded_pointer, hidden_pointer, of_slots, of_struct, local_pointer, slot_value, local_value, counted_pointer, text_pointer, element_value, container, member_value, source_value, array_value, value_of, whole, pointed, integer_of, pointer_of, is_nullterm, low_sum, high_sum, address}
 use Rattle.deputy_types.proofs.Inversions.{some_then, some_map}
 use Rattle.light_checks.specs.Weights.{IsBound, IsWhole, IsPointed, IsValue, IsSource, IsDerived}
 use Rattle.light_checks.specs.Within.{IsBounds, IsShape, AreShapes, shape_at, IsContext}

@@ -5,13 +5,13 @@ use Rattle.c_tree.specs.declared.items.Function.{Function}
 use Rattle.c_tree.specs.declared.items.Unit.{Unit as TextUnit}
 use Rattle.c_tree.specs.declared.statements.Simple.{Simple}
 use Rattle.c_tree.specs.Short.{IsShortExpr}
-use Rattle.deputy_types.specs.declared.asked.Asked.{Asked}
-use Rattle.deputy_types.specs.declared.signature.Returned.{Returned}
-use Rattle.deputy_types.specs.Checking.{Fault}
-use Rattle.deputy_types.specs.Context.{Context}
-use Rattle.deputy_types.specs.Functions.{context_of}
-use Rattle.deputy_types.specs.Numbering.{Numbered, numbered}
-use Rattle.deputy_types.specs.Statements.{act, controlling, statement_context, with_numbers, numbered_at, simple, condition}
+use Rattle.deputy_rules.specs.declared.asked.Asked.{Asked}
+use Rattle.deputy_rules.specs.declared.signature.Returned.{Returned}
+use Rattle.deputy_rules.specs.Checking.{Fault}
+use Rattle.deputy_rules.specs.Context.{Context}
+use Rattle.deputy_rules.specs.Functions.{context_of}
+use Rattle.deputy_rules.specs.Numbering.{Numbered, numbered}
+use Rattle.deputy_rules.specs.Statements.{act, controlling, statement_context, with_numbers, numbered_at, simple, condition}
 use Rattle.deputy_types.specs.Table.{Table}
 use Rattle.light_checks.specs.ShortActions.{HasShortParts}
 use Rattle.light_checks.specs.ShortUnits.{IsFunctionOf, home_of}

@@ -30,15 +30,16 @@ use Rattle.deputy_types.specs.declared.element.Element.{Element}
 use Rattle.deputy_types.specs.declared.found.Found.{Found}
 use Rattle.deputy_types.specs.declared.sibling.Role.TheVariants as role
 use Rattle.deputy_types.specs.declared.sibling.Unannotated.TheVariants.{Safe}
-use Rattle.deputy_types.specs.declared.signature.Returned.{Returned}
-use Rattle.deputy_types.specs.declared.signature.Returned.TheVariants as returned
-use Rattle.deputy_types.specs.declared.signature.Signature.{Signature}
+use Rattle.deputy_rules.specs.declared.signature.Returned.{Returned}
+use Rattle.deputy_rules.specs.declared.signature.Returned.TheVariants as returned
+use Rattle.deputy_rules.specs.declared.signature.Signature.{Signature}
 use Rattle.deputy_types.specs.declared.types.Types.{Types}
 use Rattle.deputy_types.specs.Declarations.{typed_shape}
 use Rattle.deputy_types.specs.Extents.{key_extent}
 use Rattle.deputy_types.specs.Found.{first_found, found_items, struct_names}
-use Rattle.deputy_types.specs.Functions.{functions_of, text_of, context_of}
-use Rattle.deputy_types.specs.Heads.{signature_of, parameter_shapes, value_shape, value_result, result_by, result_of}
+use Rattle.deputy_rules.specs.Functions.{text_of, context_of}
+use Rattle.deputy_types.specs.UnitLayout.{functions_of}
+use Rattle.deputy_rules.specs.Heads.{signature_of, parameter_shapes, value_shape, value_result, result_by, result_of}
 use Rattle.deputy_types.specs.Options.{and_then}
 use Rattle.deputy_types.specs.Siblings.{no_siblings, role_of}
 use Rattle.deputy_types.specs.Table.{Table}

@@ -8,19 +8,19 @@ use Rattle.c_tree.specs.Short.{IsShortExpr}
 use Rattle.c_tree.specs.Spelling.{spelled}
 use Rattle.light_checks.specs.ShortActions.{HasShortParts}
 use Rattle.checked_tree.specs.declared.shapes.Shape.{Shape}
-use Rattle.deputy_types.specs.declared.asked.Asked.{Asked}
-use Rattle.deputy_types.specs.declared.derived.Derived.{Derived}
-use Rattle.deputy_types.specs.declared.derived.Derived.TheVariants as derived
-use Rattle.deputy_types.specs.declared.signature.Returned.{Returned}
-use Rattle.deputy_types.specs.declared.signature.Returned.TheVariants as returned
-use Rattle.deputy_types.specs.Calls.{pass}
-use Rattle.deputy_types.specs.Context.{Context}
-use Rattle.deputy_types.specs.Deriving.{Deriving}
-use Rattle.deputy_types.specs.Expressions.{expression, form_of}
+use Rattle.deputy_rules.specs.declared.asked.Asked.{Asked}
+use Rattle.deputy_rules.specs.declared.derived.Derived.{Derived}
+use Rattle.deputy_rules.specs.declared.derived.Derived.TheVariants as derived
+use Rattle.deputy_rules.specs.declared.signature.Returned.{Returned}
+use Rattle.deputy_rules.specs.declared.signature.Returned.TheVariants as returned
+use Rattle.deputy_rules.specs.Calls.{pass}
+use Rattle.deputy_rules.specs.Context.{Context}
+use Rattle.deputy_rules.specs.Deriving.{Deriving}
+use Rattle.deputy_rules.specs.Expressions.{expression, form_of}
 use Rattle.deputy_types.specs.Options.{and_then}
-use Rattle.deputy_types.specs.Statements.{Home, zero_of, zero, return_value, return_from, act, test_form, controlling}
+use Rattle.deputy_rules.specs.Statements.{Home, zero_of, zero, return_value, return_from, act, test_form, controlling}
 use Rattle.deputy_types.specs.Table.{union_shape}
-use Rattle.deputy_types.specs.Values.{value_of, of_slots}
+use Rattle.deputy_rules.specs.Values.{value_of, of_slots}
 use Rattle.light_checks.specs.Lightness.{IsLightCheck}
 use Rattle.light_checks.specs.Weights.{IsDerived}
 use Rattle.light_checks.specs.Within.{IsShape, IsContext, IsResult, IsHome}

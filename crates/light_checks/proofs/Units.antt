@@ -8,10 +8,10 @@ use Rattle.c_tree.specs.declared.items.Unit.{Unit as TextUnit}
 use Rattle.c_tree.specs.declared.limits.LimitKind.TheVariants.{Locals}
 use Rattle.c_tree.specs.Slots.{locals_of}
 use Rattle.checked_tree.specs.declared.units.CheckedFn.{CheckedFn}
-use Rattle.deputy_types.specs.declared.signature.Returned.{Returned}
-use Rattle.deputy_types.specs.Checking.{Fault, NoRule, Limit}
-use Rattle.deputy_types.specs.Functions.{text_of, context_of, check_declared, check_result, check_function, wrong_prototype, behind_prototype, behind_function, check_items, checked_with, checked}
-use Rattle.deputy_types.specs.Heads.{Text, function_stands, is_over, result_of, slot_shapes, wrong_declaration}
+use Rattle.deputy_rules.specs.declared.signature.Returned.{Returned}
+use Rattle.deputy_rules.specs.Checking.{Fault, NoRule, Limit}
+use Rattle.deputy_rules.specs.Functions.{text_of, context_of, check_declared, check_result, check_function, wrong_prototype, behind_prototype, behind_function, check_items, checked_with, checked}
+use Rattle.deputy_rules.specs.Heads.{Text, function_stands, is_over, result_of, slot_shapes, wrong_declaration}
 use Rattle.deputy_types.specs.Table.{Table}
 use Rattle.light_checks.specs.Refused.{IsStanding, IsRefused, head, no_result, prototype, unruled}
 use Rattle.light_checks.specs.ShortUnits.{IsFunctionOf}

@@ -6,9 +6,9 @@ use Rattle.checked_tree.specs.declared.expressions.CheckedExpr.{CheckedExpr}
 use Rattle.checked_tree.specs.declared.sums.Part.{Part}
 use Rattle.checked_tree.specs.declared.sums.Part.TheVariants.{Constant, Atom}
 use Rattle.checked_tree.specs.declared.sums.Sum.{Sum}
-use Rattle.deputy_types.specs.declared.derived.Whole.{Whole}
-use Rattle.deputy_types.specs.Places.{moved_sum}
-use Rattle.deputy_types.specs.Sums.{constant_part, constant, atom, with_part, beyond, times, scaled, constant_of, side_by, side}
+use Rattle.deputy_rules.specs.declared.derived.Whole.{Whole}
+use Rattle.deputy_rules.specs.Places.{moved_sum}
+use Rattle.deputy_rules.specs.Sums.{constant_part, constant, atom, with_part, beyond, times, scaled, constant_of, side_by, side}
 use Rattle.light_checks.specs.Lightness.{part_factor, part_constant, factors, constants, IsLight, IsLightPart}
 use Rattle.light_checks.specs.Weights.{IsAddress, IsBound, IsSmallPart, AreSingle, IsSingle, IsWhole}
 

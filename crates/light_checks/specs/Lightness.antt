@@ -3,9 +3,9 @@ use Rattle.std.specs.Prelude.{ℕ, ◌+◌, ◌<◌, ◌^◌, List, [], ◌∷�
 use Rattle.checked_tree.specs.declared.sums.Part.{Part}
 use Rattle.checked_tree.specs.declared.sums.Part.TheVariants.{Constant, Atom}
 use Rattle.checked_tree.specs.declared.sums.Sum.{Sum}
-use Rattle.deputy_types.specs.declared.asked.Asked.{Asked}
-use Rattle.deputy_types.specs.declared.asked.AskedCond.{AskedCond}
-use Rattle.deputy_types.specs.declared.asked.AskedCond.TheVariants as asked
+use Rattle.deputy_rules.specs.declared.asked.Asked.{Asked}
+use Rattle.deputy_rules.specs.declared.asked.AskedCond.{AskedCond}
+use Rattle.deputy_rules.specs.declared.asked.AskedCond.TheVariants as asked
 
 -- the size of the factor of an expression, and of a constant times its factor
 abbrev pub part_factor : Part → ℕ

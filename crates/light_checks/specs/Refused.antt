@@ -5,10 +5,10 @@ use Rattle.c_tree.specs.declared.items.Head.{Head}
 use Rattle.c_tree.specs.declared.items.Item.TheVariants as item
 use Rattle.c_tree.specs.declared.items.Unit.{Unit as TextUnit}
 use Rattle.c_tree.specs.ShortUnit.{IsShortUnit}
-use Rattle.deputy_types.specs.declared.signature.Returned.{Returned}
-use Rattle.deputy_types.specs.Checking.{Fault, NoRule}
-use Rattle.deputy_types.specs.Functions.{context_of, text_of, wrong_prototype}
-use Rattle.deputy_types.specs.Heads.{function_stands, result_of}
+use Rattle.deputy_rules.specs.declared.signature.Returned.{Returned}
+use Rattle.deputy_rules.specs.Checking.{Fault, NoRule}
+use Rattle.deputy_rules.specs.Functions.{context_of, text_of, wrong_prototype}
+use Rattle.deputy_rules.specs.Heads.{function_stands, result_of}
 use Rattle.deputy_types.specs.Table.{Table}
 use Rattle.deputy_types.specs.UnitLayout.{layout}
 use Rattle.light_checks.specs.ShortUnits.{home_of}

@@ -4,10 +4,10 @@ use Rattle.c_tree.specs.declared.items.Function.{Function}
 use Rattle.c_tree.specs.declared.items.Item.TheVariants as item
 use Rattle.c_tree.specs.declared.items.Unit.{Unit as TextUnit}
 use Rattle.c_tree.specs.ShortUnit.{IsShortUnit}
-use Rattle.deputy_types.specs.declared.signature.Returned.{Returned}
-use Rattle.deputy_types.specs.Functions.{text_of}
-use Rattle.deputy_types.specs.Heads.{result_of}
-use Rattle.deputy_types.specs.Statements.{Home}
+use Rattle.deputy_rules.specs.declared.signature.Returned.{Returned}
+use Rattle.deputy_rules.specs.Functions.{text_of}
+use Rattle.deputy_rules.specs.Heads.{result_of}
+use Rattle.deputy_rules.specs.Statements.{Home}
 use Rattle.deputy_types.specs.Table.{Table}
 use Rattle.deputy_types.specs.UnitLayout.{layout}
 use Rattle.light_checks.specs.Standing.{Stands}

@@ -2,7 +2,7 @@
 use Rattle.std.specs.Prelude.{◌≡◌, false, None}
 use Rattle.c_tree.specs.declared.items.Function.{Function}
 use Rattle.c_tree.specs.Slots.{locals_of}
-use Rattle.deputy_types.specs.Heads.{is_over, slot_shapes, wrong_declaration}
+use Rattle.deputy_rules.specs.Heads.{is_over, slot_shapes, wrong_declaration}
 use Rattle.deputy_types.specs.Table.{Table}
 
 pub record Stands (t : Table) (f : Function) : Type 0 where

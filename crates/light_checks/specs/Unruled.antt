@@ -6,10 +6,10 @@ use Rattle.c_tree.specs.declared.statements.Body.TheVariants as body
 use Rattle.c_tree.specs.declared.statements.Simple.{Simple}
 use Rattle.c_tree.specs.declared.statements.Stmt.{Stmt}
 use Rattle.c_tree.specs.declared.statements.Stmt.TheVariants as statement
-use Rattle.deputy_types.specs.Checking.{Fault, NoRule}
-use Rattle.deputy_types.specs.Context.{Context}
-use Rattle.deputy_types.specs.Numbering.{Numbered}
-use Rattle.deputy_types.specs.Statements.{Home, act, controlling, statement_context}
+use Rattle.deputy_rules.specs.Checking.{Fault, NoRule}
+use Rattle.deputy_rules.specs.Context.{Context}
+use Rattle.deputy_rules.specs.Numbering.{Numbered}
+use Rattle.deputy_rules.specs.Statements.{Home, act, controlling, statement_context}
 
 mutual
   -- in a statement

@@ -4,19 +4,19 @@ use Rattle.std.specs.Prelude.{ℕ, ◌+◌, ◌*◌, ◌≤◌, ◌≡◌, ◌^�
 use Rattle.checked_tree.specs.declared.sums.Part.{Part}
 use Rattle.checked_tree.specs.declared.sums.Part.TheVariants.{Constant, Atom}
 use Rattle.checked_tree.specs.declared.sums.Sum.{Sum}
-use Rattle.deputy_types.specs.declared.derived.ArrayPlace.{ArrayPlace}
-use Rattle.deputy_types.specs.declared.derived.Derived.{Derived}
-use Rattle.deputy_types.specs.declared.derived.Derived.TheVariants as derived
-use Rattle.deputy_types.specs.declared.derived.Place.{Place}
-use Rattle.deputy_types.specs.declared.derived.Pointed.{Pointed}
-use Rattle.deputy_types.specs.declared.derived.Source.{Source}
-use Rattle.deputy_types.specs.declared.derived.Source.TheVariants as source
-use Rattle.deputy_types.specs.declared.derived.Value.{Value}
-use Rattle.deputy_types.specs.declared.derived.Value.TheVariants as value
-use Rattle.deputy_types.specs.declared.derived.Whole.{Whole}
-use Rattle.deputy_types.specs.declared.handed.Handed.{Handed}
+use Rattle.deputy_rules.specs.declared.derived.ArrayPlace.{ArrayPlace}
+use Rattle.deputy_rules.specs.declared.derived.Derived.{Derived}
+use Rattle.deputy_rules.specs.declared.derived.Derived.TheVariants as derived
+use Rattle.deputy_rules.specs.declared.derived.Place.{Place}
+use Rattle.deputy_rules.specs.declared.derived.Pointed.{Pointed}
+use Rattle.deputy_rules.specs.declared.derived.Source.{Source}
+use Rattle.deputy_rules.specs.declared.derived.Source.TheVariants as source
+use Rattle.deputy_rules.specs.declared.derived.Value.{Value}
+use Rattle.deputy_rules.specs.declared.derived.Value.TheVariants as value
+use Rattle.deputy_rules.specs.declared.derived.Whole.{Whole}
+use Rattle.deputy_rules.specs.declared.handed.Handed.{Handed}
 use Rattle.deputy_types.specs.Keys.{IsKey}
-use Rattle.deputy_types.specs.Sums.{constant_of}
+use Rattle.deputy_rules.specs.Sums.{constant_of}
 use Rattle.light_checks.specs.Lightness.{factors, constants}
 
 -- the address of a place, or the value of a pointer, of so many words

@@ -11,14 +11,14 @@ use Rattle.checked_tree.specs.declared.shapes.Shape.TheVariants as shape
 use Rattle.checked_tree.specs.declared.shapes.UnionShape.{UnionShape}
 use Rattle.checked_tree.specs.declared.units.ImageBlock.{ImageBlock}
 use Rattle.deputy_types.specs.declared.element.Element.{Element}
-use Rattle.deputy_types.specs.declared.signature.Returned.{Returned}
-use Rattle.deputy_types.specs.declared.signature.Returned.TheVariants as returned
-use Rattle.deputy_types.specs.declared.signature.Signature.{Signature}
-use Rattle.deputy_types.specs.Changes.{shape_of, unions_of}
-use Rattle.deputy_types.specs.Context.{Context}
+use Rattle.deputy_rules.specs.declared.signature.Returned.{Returned}
+use Rattle.deputy_rules.specs.declared.signature.Returned.TheVariants as returned
+use Rattle.deputy_rules.specs.declared.signature.Signature.{Signature}
+use Rattle.deputy_rules.specs.Changes.{shape_of, unions_of}
+use Rattle.deputy_rules.specs.Context.{Context}
 use Rattle.deputy_types.specs.Extents.{key_extent}
 use Rattle.deputy_types.specs.Keys.{IsKey}
-use Rattle.deputy_types.specs.Statements.{Home}
+use Rattle.deputy_rules.specs.Statements.{Home}
 use Rattle.deputy_types.specs.Table.{Table, element_at, member, member_key, members_of}
 
 -- what an annotation can name as a number of elements

@@ -1,9 +1,9 @@
 //! `ask`: the checks that a statement asks for, one after another.
-ghost use Rattle.deputy_types.specs.Deriving as spec;
-ghost use Rattle.deputy_types.specs.Deriving.{Derives};
+ghost use Rattle.deputy_rules.specs.Deriving as spec;
+ghost use Rattle.deputy_rules.specs.Deriving.{Derives};
 
 use crate::Context;
-use deputy_types::{Asked, AskedCond, Refusal};
+use deputy_rules::{Asked, AskedCond, Refusal};
 use sd_base::CheckKind;
 use sqlite_items::Items;
 

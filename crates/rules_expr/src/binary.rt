@@ -3,12 +3,12 @@
 ghost use Rattle.std.specs.Prelude.{◌≡◌, [], ◌∷◌, IfOk};
 ghost use Rattle.sd_base.specs.declared.kinds.CheckKind.TheVariants as kind;
 ghost use Rattle.checked_tree.specs.declared.expressions.CheckedExpr.TheVariants as form;
-ghost use Rattle.deputy_types.specs.declared.asked.AskedCond.TheVariants as cond;
-ghost use Rattle.deputy_types.specs.declared.derived.Value.TheVariants as value;
-ghost use Rattle.deputy_types.specs.Deriving as asking;
-ghost use Rattle.deputy_types.specs.Deriving.{Derives, Gives};
-ghost use Rattle.deputy_types.specs.Operators as spec;
-ghost use Rattle.deputy_types.specs.Sums as sums;
+ghost use Rattle.deputy_rules.specs.declared.asked.AskedCond.TheVariants as cond;
+ghost use Rattle.deputy_rules.specs.declared.derived.Value.TheVariants as value;
+ghost use Rattle.deputy_rules.specs.Deriving as asking;
+ghost use Rattle.deputy_rules.specs.Deriving.{Derives, Gives};
+ghost use Rattle.deputy_rules.specs.Operators as spec;
+ghost use Rattle.deputy_rules.specs.Sums as sums;
 ghost use Rattle.deputy_types.specs.Types as types;
 
 use crate::Context;
@@ -21,7 +21,8 @@ use crate::sums::side;
 use crate::values::value_of;
 use c_tree::Binary;
 use checked_tree::{Arithmetic, CheckedExpr, Comparison, Logic, PointerSum, Scalar};
-use deputy_types::{Asked, AskedCond, Derived, Element, Family, Pointed, Refusal, Value, Whole};
+use deputy_rules::{Asked, AskedCond, Derived, Family, Pointed, Refusal, Value, Whole};
+use deputy_types::Element;
 use sd_base::CheckKind;
 use sqlite_items::{Boxed, Items};
 use std::alloc::{AllocError, Global};
@@ -30,7 +31,7 @@ use std::alloc::{AllocError, Global};
 type Form = Boxed<CheckedExpr>;
 
 /// The binary operators by the rules that they have.
-#[tactic(auto, unfolding(deputy_types::specs::Operators::family_of))]
+#[tactic(auto, unfolding(deputy_rules::specs::Operators::family_of))]
 fn family_of(op: Binary) -> Family
     ensures { result ≡ spec.family_of op }
 {
@@ -101,7 +102,7 @@ fn ask_divisor(
 }
 
 /// `/ %`; Div: the divisor is not 0.
-#[tactic(auto, unfolding(deputy_types::specs::Deriving::bind, deputy_types::specs::Operators::divided))]
+#[tactic(auto, unfolding(deputy_rules::specs::Deriving::bind, deputy_rules::specs::Operators::divided))]
 fn divided(
     alloc: Global,
     ctx: &Context<'_>,
@@ -165,7 +166,7 @@ fn addresses_compared(
 }
 
 /// Two integers.
-#[tactic(auto, unfolding(deputy_types::specs::Operators::on_integers))]
+#[tactic(auto, unfolding(deputy_rules::specs::Operators::on_integers))]
 fn on_integers(
     alloc: Global,
     ctx: &Context<'_>,
@@ -270,7 +271,7 @@ fn zero_compared(
 }
 
 /// A pointer and an integer.
-#[tactic(auto, unfolding(deputy_types::specs::Operators::on_pointer_and_integer))]
+#[tactic(auto, unfolding(deputy_rules::specs::Operators::on_pointer_and_integer))]
 fn on_pointer_and_integer(
     alloc: Global,
     ctx: &Context<'_>,
@@ -294,7 +295,7 @@ fn on_pointer_and_integer(
 }
 
 /// An integer and a pointer.
-#[tactic(auto, unfolding(deputy_types::specs::Operators::on_integer_and_pointer))]
+#[tactic(auto, unfolding(deputy_rules::specs::Operators::on_integer_and_pointer))]
 fn on_integer_and_pointer(
     alloc: Global,
     ctx: &Context<'_>,
@@ -353,7 +354,7 @@ fn pointers_compared(
 }
 
 /// Two pointers.
-#[tactic(auto, unfolding(deputy_types::specs::Operators::on_pointers))]
+#[tactic(auto, unfolding(deputy_rules::specs::Operators::on_pointers))]
 fn on_pointers(alloc: Global, family: Family, p: Pointed, q: Pointed) -> Result<Derived, Refusal>
     ensures { Gives (spec.on_pointers family p q) result }
 {
@@ -366,7 +367,7 @@ fn on_pointers(alloc: Global, family: Family, p: Pointed, q: Pointed) -> Result<
 }
 
 /// A pointer and the null constant `(void *)0`.
-#[tactic(auto, unfolding(deputy_types::specs::Operators::pointer_and_null))]
+#[tactic(auto, unfolding(deputy_rules::specs::Operators::pointer_and_null))]
 fn pointer_and_null(alloc: Global, family: Family, pointer: Pointed) -> Result<Derived, Refusal>
     ensures { Gives (spec.pointer_and_null family pointer) result }
 {
@@ -377,7 +378,7 @@ fn pointer_and_null(alloc: Global, family: Family, pointer: Pointed) -> Result<D
 }
 
 /// The null constant `(void *)0` and a pointer.
-#[tactic(auto, unfolding(deputy_types::specs::Operators::null_and_pointer))]
+#[tactic(auto, unfolding(deputy_rules::specs::Operators::null_and_pointer))]
 fn null_and_pointer(alloc: Global, family: Family, pointer: Pointed) -> Result<Derived, Refusal>
     ensures { Gives (spec.null_and_pointer family pointer) result }
 {
@@ -455,7 +456,7 @@ fn on_values(
 }
 
 /// The operators between two operands.
-#[tactic(auto, unfolding(deputy_types::specs::Deriving::bind, deputy_types::specs::Operators::binary))]
+#[tactic(auto, unfolding(deputy_rules::specs::Deriving::bind, deputy_rules::specs::Operators::binary))]
 pub fn binary(
     alloc: Global,
     ctx: &Context<'_>,

@@ -1,7 +1,7 @@
 //! `Context`: where an expression stands, and what is looked up there.
 ghost use Rattle.std.specs.Prelude.{◌≡◌, option_copied};
-ghost use Rattle.deputy_types.specs.Context.{slot_shape};
-ghost use Rattle.deputy_types.specs.Values as values;
+ghost use Rattle.deputy_rules.specs.Context.{slot_shape};
+ghost use Rattle.deputy_rules.specs.Values as values;
 
 use checked_tree::Shape;
 use dep_infer::LocalTable;
@@ -26,7 +26,7 @@ pub struct Context<'a> {
 
 impl<'a> Model for Context<'a> {
     ghost use Rattle.std.specs.Prelude.{◌<◌, ◌^◌};
-    ghost use Rattle.deputy_types.specs.Context.{Context as Spec};
+    ghost use Rattle.deputy_rules.specs.Context.{Context as Spec};
 
     ghost Value = { Spec };
 

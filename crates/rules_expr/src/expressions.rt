@@ -1,7 +1,7 @@
 //! The derivation of an expression: one arm for each form, its parts first, left to right.
 ghost use Rattle.std.specs.Prelude.{◌≡◌};
-ghost use Rattle.deputy_types.specs.Deriving.{Derives, Gives};
-ghost use Rattle.deputy_types.specs.Expressions as spec;
+ghost use Rattle.deputy_rules.specs.Deriving.{Derives, Gives};
+ghost use Rattle.deputy_rules.specs.Expressions as spec;
 
 use crate::Context;
 use crate::binary::binary;
@@ -12,13 +12,13 @@ use crate::pointers::{indexed_by, string};
 use crate::values::{integer_of, pointer_of, value_of};
 use c_tree::{Expr, TypeName};
 use checked_tree::CheckedExpr;
-use deputy_types::{Asked, Derived, Refusal, Value};
+use deputy_rules::{Asked, Derived, Refusal, Value};
 use sd_base::Name;
 use sqlite_items::{Boxed, Items};
 use std::alloc::Global;
 
 /// `sizeof(T)`.
-#[tactic(auto, unfolding(deputy_types::specs::Expressions::size_of_type))]
+#[tactic(auto, unfolding(deputy_rules::specs::Expressions::size_of_type))]
 fn size_of_type(alloc: Global, ctx: &Context<'_>, name: &TypeName) -> Result<Derived, Refusal>
     ensures { Gives (spec.size_of_type ctx.now name.now) result }
 {
@@ -29,7 +29,7 @@ fn size_of_type(alloc: Global, ctx: &Context<'_>, name: &TypeName) -> Result<Der
 }
 
 /// `e->f`, as `(*e).f`.
-#[tactic(auto, unfolding(deputy_types::specs::Deriving::bind, deputy_types::specs::Expressions::arrow))]
+#[tactic(auto, unfolding(deputy_rules::specs::Deriving::bind, deputy_rules::specs::Expressions::arrow))]
 fn arrow(
     alloc: Global,
     ctx: &Context<'_>,
@@ -45,7 +45,7 @@ fn arrow(
 }
 
 /// `e[i]`.
-#[tactic(auto, unfolding(deputy_types::specs::Deriving::bind, deputy_types::specs::Expressions::subscript))]
+#[tactic(auto, unfolding(deputy_rules::specs::Deriving::bind, deputy_rules::specs::Expressions::subscript))]
 fn subscript(
     alloc: Global,
     ctx: &Context<'_>,
@@ -61,7 +61,7 @@ fn subscript(
 }
 
 /// What an expression derives, and the checks that it asks for behind those so far.
-#[tactic(auto, unfolding(deputy_types::specs::Deriving::bind, deputy_types::specs::Expressions::derive))]
+#[tactic(auto, unfolding(deputy_rules::specs::Deriving::bind, deputy_rules::specs::Expressions::derive))]
 pub fn derive(
     alloc: Global,
     ctx: &Context<'_>,
@@ -119,7 +119,7 @@ fn form_of(value: Value) -> Result<Boxed<CheckedExpr>, Refusal>
 }
 
 /// An expression by itself: the checked form of its value.
-#[tactic(auto, unfolding(deputy_types::specs::Deriving::bind, deputy_types::specs::Expressions::expression))]
+#[tactic(auto, unfolding(deputy_rules::specs::Deriving::bind, deputy_rules::specs::Expressions::expression))]
 pub fn expression(
     alloc: Global,
     ctx: &Context<'_>,

@@ -1,7 +1,7 @@
 //! Integers: constants, the operators before one operand, and casts. The only refusal of a function that answers an `AllocError` is want of memory.
 ghost use Rattle.std.specs.Prelude.{◌≡◌, neg_ℤ, pos, IfOk};
-ghost use Rattle.deputy_types.specs.Deriving.{Derives, Gives};
-ghost use Rattle.deputy_types.specs.Operators as spec;
+ghost use Rattle.deputy_rules.specs.Deriving.{Derives, Gives};
+ghost use Rattle.deputy_rules.specs.Operators as spec;
 
 use crate::Context;
 use crate::forms::{number_form, unary_form};
@@ -10,7 +10,7 @@ use crate::pointers::address_of;
 use crate::values::{integer_of, pointer_of, value_of};
 use c_tree::{Base, Number, Star, Suffix, TypeName, Unary};
 use checked_tree::{CheckedExpr, Scalar, converted};
-use deputy_types::{Asked, Derived, Refusal, Value, Whole, Written};
+use deputy_rules::{Asked, Derived, Refusal, Value, Whole, Written};
 use sqlite_items::{Boxed, Items};
 use std::alloc::{AllocError, Global};
 
@@ -79,7 +79,7 @@ fn is_plain(suffix: Suffix) -> bool
 }
 
 /// A number.
-#[tactic(auto, unfolding(deputy_types::specs::Operators::number))]
+#[tactic(auto, unfolding(deputy_rules::specs::Operators::number))]
 pub fn number(alloc: Global, n: Number) -> Result<Derived, AllocError>
     ensures { IfOk result (λ d. d ≡ spec.number n) }
 {
@@ -92,7 +92,7 @@ pub fn number(alloc: Global, n: Number) -> Result<Derived, AllocError>
 }
 
 /// A character: an `int`.
-#[tactic(auto, unfolding(deputy_types::specs::Operators::character))]
+#[tactic(auto, unfolding(deputy_rules::specs::Operators::character))]
 pub fn character(alloc: Global, c: u8) -> Result<Derived, AllocError>
     ensures { IfOk result (λ d. d ≡ spec.character c) }
 {
@@ -101,7 +101,7 @@ pub fn character(alloc: Global, c: u8) -> Result<Derived, AllocError>
 }
 
 /// `sizeof(T)`: an `unsigned`.
-#[tactic(auto, unfolding(deputy_types::specs::Operators::size_constant))]
+#[tactic(auto, unfolding(deputy_rules::specs::Operators::size_constant))]
 pub fn size_constant(alloc: Global, size: u32) -> Result<Derived, AllocError>
     ensures { IfOk result (λ d. d ≡ spec.size_constant size) }
 {
@@ -149,7 +149,7 @@ fn negative_number(alloc: Global, scalar: Scalar, value: u32) -> Result<Derived,
 }
 
 /// `-e`, e an integer: the negative of a number is a constant.
-#[tactic(auto, unfolding(deputy_types::specs::Operators::negative))]
+#[tactic(auto, unfolding(deputy_rules::specs::Operators::negative))]
 fn negative(alloc: Global, of: Whole) -> Result<Derived, AllocError>
     ensures { IfOk result (λ d. d ≡ spec.negative of) }
 {
@@ -209,7 +209,7 @@ fn not_of(alloc: Global, ctx: &Context<'_>, of: Derived) -> Result<Derived, Refu
 }
 
 /// `*e`.
-#[tactic(auto, unfolding(deputy_types::specs::Deriving::bind))]
+#[tactic(auto, unfolding(deputy_rules::specs::Deriving::bind))]
 fn dereferenced(
     alloc: Global,
     ctx: &Context<'_>,
@@ -223,7 +223,7 @@ fn dereferenced(
 }
 
 /// The operators before an operand.
-#[tactic(auto, unfolding(deputy_types::specs::Operators::unary))]
+#[tactic(auto, unfolding(deputy_rules::specs::Operators::unary))]
 pub fn unary(
     alloc: Global,
     ctx: &Context<'_>,
@@ -244,7 +244,7 @@ pub fn unary(
 }
 
 /// The integer type that a base names. None where it is a struct.
-#[tactic(auto, unfolding(deputy_types::specs::Operators::base_scalar, deputy_types::specs::Types::base_key))]
+#[tactic(auto, unfolding(deputy_rules::specs::Operators::base_scalar, deputy_types::specs::Types::base_key))]
 fn base_scalar(base: Base) -> Option<Scalar>
     ensures { result ≡ spec.base_scalar base }
 {
@@ -274,7 +274,7 @@ fn starless(stars: &[Star], scalar: Option<Scalar>) -> Option<Scalar>
 }
 
 /// The integer type that a type name names. None where it is a struct or a pointer.
-#[tactic(auto, unfolding(deputy_types::specs::Operators::integer_type))]
+#[tactic(auto, unfolding(deputy_rules::specs::Operators::integer_type))]
 fn integer_type(name: &TypeName) -> Option<Scalar>
     ensures { result ≡ spec.integer_type name.now }
 {
@@ -303,7 +303,7 @@ fn cast_by(
 }
 
 /// `(T)e`.
-#[tactic(auto, unfolding(deputy_types::specs::Operators::cast))]
+#[tactic(auto, unfolding(deputy_rules::specs::Operators::cast))]
 pub fn cast(
     alloc: Global,
     ctx: &Context<'_>,

@@ -2,14 +2,14 @@
 ghost use Rattle.std.specs.Prelude.{◌≡◌, [], ◌∷◌, pos, IfOk, option_copied};
 ghost use Rattle.sd_base.specs.declared.kinds.CheckKind.TheVariants as kind;
 ghost use Rattle.checked_tree.specs.declared.expressions.CheckedExpr.TheVariants as form;
-ghost use Rattle.deputy_types.specs.declared.asked.AskedCond.TheVariants as cond;
-ghost use Rattle.deputy_types.specs.declared.derived.Derived.TheVariants as derived;
-ghost use Rattle.deputy_types.specs.declared.derived.Source.TheVariants as source;
-ghost use Rattle.deputy_types.specs.Deriving as asking;
-ghost use Rattle.deputy_types.specs.Deriving.{Derives, Gives};
-ghost use Rattle.deputy_types.specs.Places as spec;
-ghost use Rattle.deputy_types.specs.Sums as sums;
-ghost use Rattle.deputy_types.specs.Values as values;
+ghost use Rattle.deputy_rules.specs.declared.asked.AskedCond.TheVariants as cond;
+ghost use Rattle.deputy_rules.specs.declared.derived.Derived.TheVariants as derived;
+ghost use Rattle.deputy_rules.specs.declared.derived.Source.TheVariants as source;
+ghost use Rattle.deputy_rules.specs.Deriving as asking;
+ghost use Rattle.deputy_rules.specs.Deriving.{Derives, Gives};
+ghost use Rattle.deputy_rules.specs.Places as spec;
+ghost use Rattle.deputy_rules.specs.Sums as sums;
+ghost use Rattle.deputy_rules.specs.Values as values;
 
 use crate::Context;
 use crate::asking::ask;
@@ -18,9 +18,8 @@ use crate::ids::one;
 use crate::names::{loaded_as, member_part};
 use crate::sums::beyond;
 use checked_tree::{Member, Shape, UnionShape};
-use deputy_types::{
-    ArrayPlace, Asked, AskedCond, Derived, Element, FoundArm, Place, Refusal, Source, UnionPlace,
-};
+use deputy_rules::{ArrayPlace, Asked, AskedCond, Derived, FoundArm, Place, Refusal, Source, UnionPlace};
+use deputy_types::Element;
 use sd_base::{CheckKind, Name};
 use sqlite_items::Items;
 use std::alloc::{AllocError, Global};
@@ -49,7 +48,7 @@ fn struct_key(key: Element) -> Option<u32>
 }
 
 /// The struct of a place, by where its type is declared.
-#[tactic(auto, unfolding(deputy_types::specs::Places::struct_of))]
+#[tactic(auto, unfolding(deputy_rules::specs::Places::struct_of))]
 fn struct_of(ctx: &Context<'_>, source: Source) -> Option<u32>
     ensures { result ≡ spec.struct_of ctx.now source }
 {
@@ -120,7 +119,7 @@ fn member_at(
 }
 
 /// `l.f`, a field of the struct place l: the place of l plus the offset.
-#[tactic(auto, unfolding(deputy_types::specs::Places::member_place))]
+#[tactic(auto, unfolding(deputy_rules::specs::Places::member_place))]
 fn member_place(
     alloc: Global,
     ctx: &Context<'_>,
@@ -169,7 +168,7 @@ fn part_by(
 }
 
 /// `l.f`, l a place.
-#[tactic(auto, unfolding(deputy_types::specs::Places::part_of))]
+#[tactic(auto, unfolding(deputy_rules::specs::Places::part_of))]
 fn part_of(alloc: Global, ctx: &Context<'_>, place: Place, name: &Name) -> Result<Derived, Refusal>
     ensures { Gives (spec.part_of ctx.now place name.now) result }
 {
@@ -234,7 +233,7 @@ fn found_member(ctx: &Context<'_>, structure: u32, part: u32, number: u32) -> Op
 }
 
 /// An arm by its name.
-#[tactic(auto, unfolding(deputy_types::specs::Places::found_arm))]
+#[tactic(auto, unfolding(deputy_rules::specs::Places::found_arm))]
 fn found_arm(ctx: &Context<'_>, structure: u32, part: u32, name: &Name) -> Option<FoundArm>
     ensures { result ≡ spec.found_arm ctx.now structure part name.now }
 {
@@ -288,7 +287,7 @@ fn arm_field(
 }
 
 /// `l.u.a`, an arm that was found.
-#[tactic(auto, unfolding(deputy_types::specs::Deriving::bind))]
+#[tactic(auto, unfolding(deputy_rules::specs::Deriving::bind))]
 fn arm_at(
     alloc: Global,
     ctx: &Context<'_>,
@@ -303,7 +302,7 @@ fn arm_at(
 }
 
 /// `l.u.a`, an arm, as a field; Tag: the tag of l equals the arm's constant.
-#[tactic(auto, unfolding(deputy_types::specs::Deriving::bind, deputy_types::specs::Places::arm_place))]
+#[tactic(auto, unfolding(deputy_rules::specs::Deriving::bind, deputy_rules::specs::Places::arm_place))]
 fn arm_place(
     alloc: Global,
     ctx: &Context<'_>,
@@ -320,7 +319,7 @@ fn arm_place(
 }
 
 /// `l.f`.
-#[tactic(auto, unfolding(deputy_types::specs::Places::dotted))]
+#[tactic(auto, unfolding(deputy_rules::specs::Places::dotted))]
 pub fn dotted(
     alloc: Global,
     ctx: &Context<'_>,

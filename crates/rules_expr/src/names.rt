@@ -1,14 +1,14 @@
 //! What the names in an annotation stand for, and the bounds that an annotation gives a pointer. The only refusal is want of memory.
 ghost use Rattle.std.specs.Prelude.{◌≡◌, IfOk, option_copied, unwrap_or};
-ghost use Rattle.deputy_types.specs.Sums as sums;
-ghost use Rattle.deputy_types.specs.Values as spec;
+ghost use Rattle.deputy_rules.specs.Sums as sums;
+ghost use Rattle.deputy_rules.specs.Values as spec;
 
 use crate::Context;
 use crate::copies::copy_sum;
 use crate::forms::{field_form, load_form, local_form};
 use crate::sums::{beyond, plus, scaled, sum_of};
 use checked_tree::{Bounds, CheckedExpr, Edge, Member, Part, Scalar, Shape, Sum, bare};
-use deputy_types::{Change, Names, Naming};
+use deputy_rules::{Change, Names, Naming};
 use sqlite_items::{Boxed, Items};
 use std::alloc::{AllocError, Global};
 
@@ -84,7 +84,7 @@ fn argument_sum(alloc: Global, argument: Option<&Sum>) -> Result<Sum, AllocError
 }
 
 /// The value that the name with this number has.
-#[tactic(auto, unfolding(deputy_types::specs::Values::named_sum))]
+#[tactic(auto, unfolding(deputy_rules::specs::Values::named_sum))]
 fn named_sum(alloc: Global, ctx: &Context<'_>, names: &Names, name: u32) -> Result<Sum, AllocError>
     ensures { IfOk result (λ s. s ≡ spec.named_sum ctx.now names.now name) }
 {
@@ -122,7 +122,7 @@ fn changed_sum(
 }
 
 /// The value of a name of an annotation.
-#[tactic(auto, unfolding(deputy_types::specs::Values::name_sum))]
+#[tactic(auto, unfolding(deputy_rules::specs::Values::name_sum))]
 pub fn name_sum(
     alloc: Global,
     ctx: &Context<'_>,
@@ -183,7 +183,7 @@ fn base_sum(
 }
 
 /// A side of the bounds of a pointer with this value.
-#[tactic(auto, unfolding(deputy_types::specs::Values::edge_sum))]
+#[tactic(auto, unfolding(deputy_rules::specs::Values::edge_sum))]
 fn edge_sum(
     alloc: Global,
     ctx: &Context<'_>,
@@ -199,7 +199,7 @@ fn edge_sum(
 }
 
 /// The low bound of a pointer with this value.
-#[tactic(auto, unfolding(deputy_types::specs::Values::low_sum))]
+#[tactic(auto, unfolding(deputy_rules::specs::Values::low_sum))]
 pub fn low_sum(
     alloc: Global,
     ctx: &Context<'_>,
@@ -217,7 +217,7 @@ pub fn low_sum(
 }
 
 /// The high bound of a pointer with this value.
-#[tactic(auto, unfolding(deputy_types::specs::Values::high_sum))]
+#[tactic(auto, unfolding(deputy_rules::specs::Values::high_sum))]
 pub fn high_sum(
     alloc: Global,
     ctx: &Context<'_>,

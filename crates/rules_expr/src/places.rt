@@ -2,12 +2,12 @@
 ghost use Rattle.std.specs.Prelude.{◌≡◌, IfOk};
 ghost use Rattle.sd_base.specs.declared.kinds.CheckKind.TheVariants as kind;
 ghost use Rattle.checked_tree.specs.declared.expressions.CheckedExpr.TheVariants as form;
-ghost use Rattle.deputy_types.specs.declared.asked.AskedCond.TheVariants as cond;
-ghost use Rattle.deputy_types.specs.declared.derived.Derived.TheVariants as derived;
-ghost use Rattle.deputy_types.specs.declared.derived.Source.TheVariants as source;
-ghost use Rattle.deputy_types.specs.Deriving as asking;
-ghost use Rattle.deputy_types.specs.Deriving.{Derives, Gives};
-ghost use Rattle.deputy_types.specs.Places as spec;
+ghost use Rattle.deputy_rules.specs.declared.asked.AskedCond.TheVariants as cond;
+ghost use Rattle.deputy_rules.specs.declared.derived.Derived.TheVariants as derived;
+ghost use Rattle.deputy_rules.specs.declared.derived.Source.TheVariants as source;
+ghost use Rattle.deputy_rules.specs.Deriving as asking;
+ghost use Rattle.deputy_rules.specs.Deriving.{Derives, Gives};
+ghost use Rattle.deputy_rules.specs.Places as spec;
 
 use crate::Context;
 use crate::asking::ask;
@@ -16,10 +16,8 @@ use crate::forms::{block_form, element_form, through_form};
 use crate::ids::{Ids, joined, one, with_id};
 use crate::sums::{beyond, constant, side, times, with_part};
 use checked_tree::{ImageBlock, Scalar, Sum};
-use deputy_types::{
-    ArrayPlace, Asked, AskedCond, Derived, Element, GlobalPlace, Place, Pointed, Refusal, Source,
-    Whole,
-};
+use deputy_rules::{ArrayPlace, Asked, AskedCond, Derived, Place, Pointed, Refusal, Source, Whole};
+use deputy_types::{Element, GlobalPlace};
 use sd_base::{CheckKind, Name};
 use sqlite_items::Items;
 use std::alloc::{AllocError, Global};
@@ -51,7 +49,7 @@ fn block_place(
 }
 
 /// A global.
-#[tactic(auto, unfolding(deputy_types::specs::Places::global_place))]
+#[tactic(auto, unfolding(deputy_rules::specs::Places::global_place))]
 fn global_place(alloc: Global, ctx: &Context<'_>, global: GlobalPlace) -> Result<Derived, Refusal>
     ensures { Gives (spec.global_place ctx.now global) result }
 {
@@ -75,7 +73,7 @@ fn local_of(ctx: &Context<'_>, slot: u32) -> Result<Derived, Refusal>
 }
 
 /// A name: a parameter or local, which hides a global, or else a global.
-#[tactic(auto, unfolding(deputy_types::specs::Places::named))]
+#[tactic(auto, unfolding(deputy_rules::specs::Places::named))]
 pub fn named(alloc: Global, ctx: &Context<'_>, name: &Name) -> Result<Derived, Refusal>
     ensures { Gives (spec.named ctx.now name.now) result }
 {
@@ -89,7 +87,7 @@ pub fn named(alloc: Global, ctx: &Context<'_>, name: &Name) -> Result<Derived, R
 }
 
 /// Null, `1 <= v`, unless the pointer is sure.
-#[tactic(auto, unfolding(deputy_types::specs::Deriving::bind, deputy_types::specs::Places::not_null))]
+#[tactic(auto, unfolding(deputy_rules::specs::Deriving::bind, deputy_rules::specs::Places::not_null))]
 pub fn not_null(
     alloc: Global,
     ctx: &Context<'_>,
@@ -139,7 +137,7 @@ fn place_through(
 }
 
 /// `*e`, e not nullterm: the place `v`; Null, and Bound `v + s <= hi`.
-#[tactic(auto, unfolding(deputy_types::specs::Deriving::bind, deputy_types::specs::Places::through))]
+#[tactic(auto, unfolding(deputy_rules::specs::Deriving::bind, deputy_rules::specs::Places::through))]
 pub fn through(
     alloc: Global,
     ctx: &Context<'_>,
@@ -160,7 +158,7 @@ pub fn through(
 }
 
 /// `*e` and `e[0]`, e nullterm: the place `v`; Null.
-#[tactic(auto, unfolding(deputy_types::specs::Deriving::bind, deputy_types::specs::Places::through_text))]
+#[tactic(auto, unfolding(deputy_rules::specs::Deriving::bind, deputy_rules::specs::Places::through_text))]
 pub fn through_text(
     alloc: Global,
     ctx: &Context<'_>,
@@ -174,7 +172,7 @@ pub fn through_text(
 }
 
 /// `*e`.
-#[tactic(auto, unfolding(deputy_types::specs::Places::followed))]
+#[tactic(auto, unfolding(deputy_rules::specs::Places::followed))]
 pub fn followed(
     alloc: Global,
     ctx: &Context<'_>,
@@ -201,7 +199,7 @@ pub fn is_unsigned(scalar: Scalar) -> bool
 }
 
 /// Bound `lo <= v`, where it is wanted.
-#[tactic(auto, unfolding(deputy_types::specs::Deriving::bind))]
+#[tactic(auto, unfolding(deputy_rules::specs::Deriving::bind))]
 pub fn not_below(
     alloc: Global,
     ctx: &Context<'_>,
@@ -222,7 +220,7 @@ pub fn not_below(
 }
 
 /// Bound `v <= hi`, where it is wanted.
-#[tactic(auto, unfolding(deputy_types::specs::Deriving::bind))]
+#[tactic(auto, unfolding(deputy_rules::specs::Deriving::bind))]
 pub fn not_above(
     alloc: Global,
     ctx: &Context<'_>,
@@ -251,7 +249,7 @@ pub fn moved_sum(alloc: Global, at: &Sum, index: &Whole, size: i64) -> Result<Su
 }
 
 /// Null, Bound `lo <= v + s*i` where i is `int`, Bound `v + s*i + s <= hi`.
-#[tactic(auto, unfolding(deputy_types::specs::Deriving::bind))]
+#[tactic(auto, unfolding(deputy_rules::specs::Deriving::bind))]
 fn index_checks(
     alloc: Global,
     ctx: &Context<'_>,
@@ -293,7 +291,7 @@ fn element_place(
 }
 
 /// `e[i]` at this address.
-#[tactic(auto, unfolding(deputy_types::specs::Deriving::bind))]
+#[tactic(auto, unfolding(deputy_rules::specs::Deriving::bind))]
 fn indexed_at(
     alloc: Global,
     ctx: &Context<'_>,
@@ -310,7 +308,7 @@ fn indexed_at(
 }
 
 /// `e[i]`, e not nullterm, i integer: the place `v + s*i`.
-#[tactic(auto, unfolding(deputy_types::specs::Places::indexed))]
+#[tactic(auto, unfolding(deputy_rules::specs::Places::indexed))]
 pub fn indexed(
     alloc: Global,
     ctx: &Context<'_>,

@@ -3,10 +3,10 @@ ghost use Rattle.std.specs.Prelude.{◌≡◌, [], ◌∷◌, ◌++◌, pos, tru
 ghost use Rattle.sd_base.specs.declared.kinds.CheckKind.TheVariants as kind;
 ghost use Rattle.checked_tree.specs.declared.expressions.CheckedExpr.TheVariants as form;
 ghost use Rattle.checked_tree.specs.declared.expressions.PointerSum.TheVariants as pointer_sum;
-ghost use Rattle.deputy_types.specs.declared.asked.AskedCond.TheVariants as cond;
-ghost use Rattle.deputy_types.specs.Deriving as asking;
-ghost use Rattle.deputy_types.specs.Deriving.{Derives, Gives};
-ghost use Rattle.deputy_types.specs.Pointers as spec;
+ghost use Rattle.deputy_rules.specs.declared.asked.AskedCond.TheVariants as cond;
+ghost use Rattle.deputy_rules.specs.Deriving as asking;
+ghost use Rattle.deputy_rules.specs.Deriving.{Derives, Gives};
+ghost use Rattle.deputy_rules.specs.Pointers as spec;
 
 use crate::Context;
 use crate::asking::ask;
@@ -18,10 +18,8 @@ use crate::places::{
 };
 use crate::sums::{beyond, constant};
 use checked_tree::{CheckedExpr, ImageBlock, Member, PointerSum, Scalar, Sum};
-use deputy_types::{
-    Asked, AskedCond, Derived, Element, Place, Pointed, Refusal, Source, Value, Whole, Written,
-    has_names,
-};
+use deputy_rules::{Asked, AskedCond, Derived, Place, Pointed, Refusal, Source, Value, Whole, Written};
+use deputy_types::{Element, has_names};
 use sd_base::CheckKind;
 use sqlite_items::{Boxed, Items};
 use std::alloc::{AllocError, Global};
@@ -54,7 +52,7 @@ fn string_at(alloc: Global, block: &ImageBlock) -> Result<Derived, AllocError>
 }
 
 /// The string with this number in the text.
-#[tactic(auto, unfolding(deputy_types::specs::Pointers::string))]
+#[tactic(auto, unfolding(deputy_rules::specs::Pointers::string))]
 pub fn string(alloc: Global, ctx: &Context<'_>, number: u32) -> Result<Derived, Refusal>
     ensures { Gives (spec.string ctx.now number) result }
 {
@@ -78,7 +76,7 @@ fn has_address(ctx: &Context<'_>, structure: u32, number: u32, member: &Member) 
 }
 
 /// The type of a member that has an address.
-#[tactic(auto, unfolding(deputy_types::specs::Pointers::addressed_member))]
+#[tactic(auto, unfolding(deputy_rules::specs::Pointers::addressed_member))]
 fn addressed_member(ctx: &Context<'_>, structure: u32, number: u32) -> Option<Element>
     ensures { result ≡ spec.addressed_member ctx.now structure number }
 {
@@ -95,7 +93,7 @@ fn addressed_member(ctx: &Context<'_>, structure: u32, number: u32) -> Option<El
 }
 
 /// The type of a place that has an address: none through a nullterm pointer has.
-#[tactic(auto, unfolding(deputy_types::specs::Pointers::addressed))]
+#[tactic(auto, unfolding(deputy_rules::specs::Pointers::addressed))]
 fn addressed(ctx: &Context<'_>, source: Source) -> Option<Element>
     ensures { result ≡ spec.addressed ctx.now source }
 {
@@ -131,7 +129,7 @@ fn address_at(
 }
 
 /// The address of a place.
-#[tactic(auto, unfolding(deputy_types::specs::Pointers::address_of_place))]
+#[tactic(auto, unfolding(deputy_rules::specs::Pointers::address_of_place))]
 fn address_of_place(alloc: Global, ctx: &Context<'_>, place: Place) -> Result<Derived, Refusal>
     ensures { Gives (spec.address_of_place ctx.now place) result }
 {
@@ -142,7 +140,7 @@ fn address_of_place(alloc: Global, ctx: &Context<'_>, place: Place) -> Result<De
 }
 
 /// `&l`: no local, union or array has an address.
-#[tactic(auto, unfolding(deputy_types::specs::Pointers::address_of))]
+#[tactic(auto, unfolding(deputy_rules::specs::Pointers::address_of))]
 pub fn address_of(alloc: Global, ctx: &Context<'_>, of: Derived) -> Result<Derived, Refusal>
     ensures { Gives (spec.address_of ctx.now of) result }
 {
@@ -189,7 +187,7 @@ fn may_rise(how: PointerSum, unsigned: bool) -> bool
 }
 
 /// Null, Bound `lo <=` new `v`, and Bound new `v <= hi`, where they are wanted.
-#[tactic(auto, unfolding(deputy_types::specs::Deriving::bind))]
+#[tactic(auto, unfolding(deputy_rules::specs::Deriving::bind))]
 fn move_checks(
     alloc: Global,
     ctx: &Context<'_>,
@@ -242,7 +240,7 @@ fn moved_pointer(
 }
 
 /// `e + i`, `i + e`, `e - i`, with this value.
-#[tactic(auto, unfolding(deputy_types::specs::Deriving::bind))]
+#[tactic(auto, unfolding(deputy_rules::specs::Deriving::bind))]
 fn moved_to(
     alloc: Global,
     ctx: &Context<'_>,
@@ -260,7 +258,7 @@ fn moved_to(
 }
 
 /// `e + i`, `i + e`, `e - i`, e not nullterm: `v` moved by `s*i`, same bounds.
-#[tactic(auto, unfolding(deputy_types::specs::Pointers::moved))]
+#[tactic(auto, unfolding(deputy_rules::specs::Pointers::moved))]
 pub fn moved(
     alloc: Global,
     ctx: &Context<'_>,
@@ -288,7 +286,7 @@ pub fn is_written(n: u32, written: Written) -> bool
 }
 
 /// Term: the byte at the address is not 0, where it is wanted.
-#[tactic(auto, unfolding(deputy_types::specs::Deriving::bind))]
+#[tactic(auto, unfolding(deputy_rules::specs::Deriving::bind))]
 fn not_ended(
     alloc: Global,
     ctx: &Context<'_>,
@@ -312,7 +310,7 @@ fn not_ended(
 }
 
 /// Null, and for 1 Term.
-#[tactic(auto, unfolding(deputy_types::specs::Deriving::bind))]
+#[tactic(auto, unfolding(deputy_rules::specs::Deriving::bind))]
 fn text_checks(
     alloc: Global,
     ctx: &Context<'_>,
@@ -361,7 +359,7 @@ fn moved_text(
 }
 
 /// `e + 0` and `e + 1`, with this value.
-#[tactic(auto, unfolding(deputy_types::specs::Deriving::bind))]
+#[tactic(auto, unfolding(deputy_rules::specs::Deriving::bind))]
 fn text_to(
     alloc: Global,
     ctx: &Context<'_>,
@@ -378,7 +376,7 @@ fn text_to(
 }
 
 /// `e + 0`, `e + 1`, e nullterm: `v`, `v + 1`.
-#[tactic(auto, unfolding(deputy_types::specs::Pointers::text_moved))]
+#[tactic(auto, unfolding(deputy_rules::specs::Pointers::text_moved))]
 fn text_moved(
     alloc: Global,
     ctx: &Context<'_>,
@@ -394,7 +392,7 @@ fn text_moved(
 }
 
 /// The same, as a derived expression.
-#[tactic(auto, unfolding(deputy_types::specs::Deriving::bind))]
+#[tactic(auto, unfolding(deputy_rules::specs::Deriving::bind))]
 fn text_stepped(
     alloc: Global,
     ctx: &Context<'_>,
@@ -408,7 +406,7 @@ fn text_stepped(
 }
 
 /// `e + i`, e nullterm: for the numbers 0 and 1.
-#[tactic(auto, unfolding(deputy_types::specs::Pointers::text_sum))]
+#[tactic(auto, unfolding(deputy_rules::specs::Pointers::text_sum))]
 pub fn text_sum(
     alloc: Global,
     ctx: &Context<'_>,
@@ -428,7 +426,7 @@ pub fn text_sum(
 }
 
 /// `e[1]`, e nullterm, as `*(e + 1)`.
-#[tactic(auto, unfolding(deputy_types::specs::Deriving::bind))]
+#[tactic(auto, unfolding(deputy_rules::specs::Deriving::bind))]
 fn text_second(
     alloc: Global,
     ctx: &Context<'_>,
@@ -443,7 +441,7 @@ fn text_second(
 }
 
 /// `e[0]`, e nullterm, as `*e`; `e[1]` as `*(e + 1)`.
-#[tactic(auto, unfolding(deputy_types::specs::Pointers::text_indexed))]
+#[tactic(auto, unfolding(deputy_rules::specs::Pointers::text_indexed))]
 fn text_indexed(
     alloc: Global,
     ctx: &Context<'_>,
@@ -463,7 +461,7 @@ fn text_indexed(
 }
 
 /// `e[i]`.
-#[tactic(auto, unfolding(deputy_types::specs::Pointers::indexed_by))]
+#[tactic(auto, unfolding(deputy_rules::specs::Pointers::indexed_by))]
 pub fn indexed_by(
     alloc: Global,
     ctx: &Context<'_>,

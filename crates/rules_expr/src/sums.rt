@@ -1,10 +1,10 @@
 //! Sums over expressions: parts are listed as they are written, and nothing is added up. The only refusal is want of memory.
 ghost use Rattle.std.specs.Prelude.{◌≡◌, map, IfOk};
-ghost use Rattle.deputy_types.specs.Sums as spec;
+ghost use Rattle.deputy_rules.specs.Sums as spec;
 
 use crate::copies::copy_form;
 use checked_tree::{CheckedExpr, Part, Sum, bare};
-use deputy_types::{Whole, Written};
+use deputy_rules::{Whole, Written};
 use sqlite_items::{Boxed, Items};
 use std::alloc::{AllocError, Global};
 
@@ -82,7 +82,7 @@ pub fn times(n: i64, part: Part) -> Part
 }
 
 /// A sum whose parts stand once, so many times.
-#[tactic(auto, unfolding(deputy_types::specs::Sums::scaled))]
+#[tactic(auto, unfolding(deputy_rules::specs::Sums::scaled))]
 pub fn scaled(alloc: Global, n: i64, a: &Sum) -> Result<Sum, AllocError>
     ensures { IfOk result (λ s. s ≡ spec.scaled n a.now) }
 {
@@ -139,7 +139,7 @@ fn side_by(alloc: Global, constant: Option<i64>, e: &CheckedExpr) -> Result<Part
 }
 
 /// An integer expression in a check: a constant, or one atom as a whole.
-#[tactic(auto, unfolding(deputy_types::specs::Sums::side))]
+#[tactic(auto, unfolding(deputy_rules::specs::Sums::side))]
 pub fn side(alloc: Global, w: &Whole) -> Result<Part, AllocError>
     ensures { IfOk result (λ p. p ≡ spec.side w.now) }
 {

@@ -1,9 +1,9 @@
 //! Reading: the value of a local or of a place, with the bounds that its annotation gives, the names read in the same struct or function.
 ghost use Rattle.std.specs.Prelude.{◌≡◌, IfOk, option_copied};
-ghost use Rattle.deputy_types.specs.Deriving.{Gives};
+ghost use Rattle.deputy_rules.specs.Deriving.{Gives};
 ghost use Rattle.deputy_types.specs.Options.{and_then};
 ghost use Rattle.deputy_types.specs.Table as table;
-ghost use Rattle.deputy_types.specs.Values as spec;
+ghost use Rattle.deputy_rules.specs.Values as spec;
 ghost use Rattle.checked_tree.specs.declared.expressions.CheckedExpr.TheVariants as form;
 ghost use Rattle.checked_tree.specs.declared.shapes.Scalar.TheVariants as scalar;
 
@@ -13,9 +13,8 @@ use crate::forms::{address_form, load_form, local_form};
 use crate::names::{high_sum, low_sum, of_slots, of_struct, slot_sum};
 use crate::sums::{atom, with_part};
 use checked_tree::{Bounds, CheckedExpr, Part, Scalar, Shape, Sum};
-use deputy_types::{
-    ArrayPlace, Derived, Element, Naming, Place, Pointed, Refusal, Source, Value, Whole, Written,
-};
+use deputy_rules::{ArrayPlace, Derived, Naming, Place, Pointed, Refusal, Source, Value, Whole, Written};
+use deputy_types::Element;
 use sqlite_items::Boxed;
 use std::alloc::{AllocError, Global};
 
@@ -65,7 +64,7 @@ fn pointer_to(
 }
 
 /// A pointer with the bounds of its annotation.
-#[tactic(auto, unfolding(deputy_types::specs::Values::bounded_pointer))]
+#[tactic(auto, unfolding(deputy_rules::specs::Values::bounded_pointer))]
 fn bounded_pointer(
     alloc: Global,
     ctx: &Context<'_>,
@@ -85,7 +84,7 @@ fn bounded_pointer(
 }
 
 /// A local pointer whose bounds lie in two hidden slots.
-#[tactic(auto, unfolding(deputy_types::specs::Values::hidden_pointer))]
+#[tactic(auto, unfolding(deputy_rules::specs::Values::hidden_pointer))]
 fn hidden_pointer(alloc: Global, ctx: &Context<'_>, slot: u32, elem: u32) -> Result<Value, Refusal>
     ensures { Gives (spec.hidden_pointer ctx.now slot elem) result }
 {
@@ -102,7 +101,7 @@ fn hidden_pointer(alloc: Global, ctx: &Context<'_>, slot: u32, elem: u32) -> Res
 }
 
 /// A local pointer whose bounds its annotation gives.
-#[tactic(auto, unfolding(deputy_types::specs::Values::bounded_pointer))]
+#[tactic(auto, unfolding(deputy_rules::specs::Values::bounded_pointer))]
 fn annotated_local(
     alloc: Global,
     ctx: &Context<'_>,
@@ -147,7 +146,7 @@ fn slot_value(alloc: Global, ctx: &Context<'_>, slot: u32, shape: &Shape) -> Res
 }
 
 /// The value of a local.
-#[tactic(auto, unfolding(deputy_types::specs::Values::local_value))]
+#[tactic(auto, unfolding(deputy_rules::specs::Values::local_value))]
 pub fn local_value(alloc: Global, ctx: &Context<'_>, slot: u32) -> Result<Value, Refusal>
     ensures { Gives (spec.local_value ctx.now slot) result }
 {
@@ -158,7 +157,7 @@ pub fn local_value(alloc: Global, ctx: &Context<'_>, slot: u32) -> Result<Value,
 }
 
 /// A pointer with a constant annotation that lets it reach so many elements.
-#[tactic(auto, unfolding(deputy_types::specs::Values::counted_pointer))]
+#[tactic(auto, unfolding(deputy_rules::specs::Values::counted_pointer))]
 fn counted_pointer(
     alloc: Global,
     ctx: &Context<'_>,
@@ -185,7 +184,7 @@ fn counted_pointer(
 }
 
 /// A pointer to text.
-#[tactic(auto, unfolding(deputy_types::specs::Values::text_pointer))]
+#[tactic(auto, unfolding(deputy_rules::specs::Values::text_pointer))]
 fn text_pointer(
     alloc: Global,
     ctx: &Context<'_>,
@@ -210,7 +209,7 @@ fn loaded(alloc: Global, place: Boxed<CheckedExpr>) -> Result<Boxed<CheckedExpr>
 }
 
 /// The value of a place of this type.
-#[tactic(auto, unfolding(deputy_types::specs::Values::element_value))]
+#[tactic(auto, unfolding(deputy_rules::specs::Values::element_value))]
 fn element_value(
     alloc: Global,
     ctx: &Context<'_>,
@@ -231,7 +230,7 @@ fn element_value(
 }
 
 /// The struct place in which a member lies.
-#[tactic(auto, unfolding(deputy_types::specs::Values::container))]
+#[tactic(auto, unfolding(deputy_rules::specs::Values::container))]
 pub fn container(alloc: Global, place: &CheckedExpr) -> Result<Boxed<CheckedExpr>, AllocError>
     ensures { IfOk result (λ f. f ≡ spec.container place.now) }
 {
@@ -263,7 +262,7 @@ fn member_pointer(
 }
 
 /// The value of a member of this shape.
-#[tactic(auto, unfolding(deputy_types::specs::Values::member_value))]
+#[tactic(auto, unfolding(deputy_rules::specs::Values::member_value))]
 fn member_value(
     alloc: Global,
     ctx: &Context<'_>,
@@ -308,7 +307,7 @@ fn text_value(alloc: Global, place: Boxed<CheckedExpr>) -> Result<Value, AllocEr
 }
 
 /// The value of a place whose type is declared there.
-#[tactic(auto, unfolding(deputy_types::specs::Values::source_value))]
+#[tactic(auto, unfolding(deputy_rules::specs::Values::source_value))]
 pub fn source_value(
     alloc: Global,
     ctx: &Context<'_>,
@@ -337,7 +336,7 @@ fn place_value(alloc: Global, ctx: &Context<'_>, place: Place) -> Result<Value, 
 }
 
 /// An array as a pointer to its first element. The only refusal is want of memory.
-#[tactic(auto, unfolding(deputy_types::specs::Values::array_value))]
+#[tactic(auto, unfolding(deputy_rules::specs::Values::array_value))]
 pub fn array_value(alloc: Global, ctx: &Context<'_>, array: ArrayPlace) -> Result<Value, AllocError>
     ensures { IfOk result (λ v. v ≡ spec.array_value ctx.now array) }
 {
@@ -364,7 +363,7 @@ pub fn array_value(alloc: Global, ctx: &Context<'_>, array: ArrayPlace) -> Resul
 }
 
 /// The value of what was derived: a place or a local is read, and a struct or a union has none.
-#[tactic(auto, unfolding(deputy_types::specs::Values::value_of))]
+#[tactic(auto, unfolding(deputy_rules::specs::Values::value_of))]
 pub fn value_of(alloc: Global, ctx: &Context<'_>, derived: Derived) -> Result<Value, Refusal>
     ensures { Gives (spec.value_of ctx.now derived) result }
 {
@@ -400,7 +399,7 @@ fn pointed(value: Value) -> Result<Pointed, Refusal>
 }
 
 /// The value of what was derived, as an integer.
-#[tactic(auto, unfolding(deputy_types::specs::Values::integer_of))]
+#[tactic(auto, unfolding(deputy_rules::specs::Values::integer_of))]
 pub fn integer_of(alloc: Global, ctx: &Context<'_>, derived: Derived) -> Result<Whole, Refusal>
     ensures { Gives (spec.integer_of ctx.now derived) result }
 {
@@ -408,7 +407,7 @@ pub fn integer_of(alloc: Global, ctx: &Context<'_>, derived: Derived) -> Result<
 }
 
 /// The value of what was derived, as a pointer.
-#[tactic(auto, unfolding(deputy_types::specs::Values::pointer_of))]
+#[tactic(auto, unfolding(deputy_rules::specs::Values::pointer_of))]
 pub fn pointer_of(alloc: Global, ctx: &Context<'_>, derived: Derived) -> Result<Pointed, Refusal>
     ensures { Gives (spec.pointer_of ctx.now derived) result }
 {

@@ -6,9 +6,9 @@ use Rattle.c_tree.specs.declared.limits.LimitKind.TheVariants.{Locals}
 use Rattle.c_tree.specs.Slots.{slots}
 use Rattle.checked_tree.specs.declared.shapes.Shape.{Shape}
 use Rattle.checked_tree.specs.declared.units.CheckedFn.{CheckedFn}
-use Rattle.deputy_types.specs.Checking.{Fault, NoRule, Limit}
-use Rattle.deputy_types.specs.Functions.{check_function, check_result, context_of}
-use Rattle.deputy_types.specs.Heads.{Text, function_stands, is_over, result_of, slot_shapes}
+use Rattle.deputy_rules.specs.Checking.{Fault, NoRule, Limit}
+use Rattle.deputy_rules.specs.Functions.{check_function, check_result, context_of}
+use Rattle.deputy_rules.specs.Heads.{Text, function_stands, is_over, result_of, slot_shapes}
 use Rattle.rules_stmt.proofs.SlotCounts.{slots_counted}
 
 chosen : {X : Type 0} (stands over : Bool) (a b c : X) → stands ≡ true → (if not stands then a else if over then b else c) ≡ (if over then b else c)

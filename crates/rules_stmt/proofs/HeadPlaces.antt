@@ -5,7 +5,7 @@ use Rattle.c_tree.specs.declared.items.Item.{Item}
 use Rattle.c_tree.specs.Bytes.{Text}
 use Rattle.dep_infer.specs.Found.{found, first_of, NotesFirst}
 use Rattle.dep_infer.proofs.Firsts.{position-push}
-use Rattle.deputy_types.specs.Heads.{head_in, heads_name, is_named_head}
+use Rattle.deputy_rules.specs.Heads.{head_in, heads_name, is_named_head}
 use Rattle.rules_stmt.specs.Places.{FindsHeads, NotesHead}
 
 module _ (old : List (Text × ℕ)) (i : Item) (place : ℕ) where

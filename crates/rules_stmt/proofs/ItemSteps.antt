@@ -4,9 +4,9 @@ use Rattle.c_tree.specs.declared.items.Function.{Function}
 use Rattle.c_tree.specs.declared.items.Item.{Item}
 use Rattle.c_tree.specs.declared.items.Item.TheVariants as item
 use Rattle.checked_tree.specs.declared.units.CheckedFn.{CheckedFn}
-use Rattle.deputy_types.specs.Checking.{Fault}
-use Rattle.deputy_types.specs.Functions.{behind_function, check_function, check_items}
-use Rattle.deputy_types.specs.Heads.{Text}
+use Rattle.deputy_rules.specs.Checking.{Fault}
+use Rattle.deputy_rules.specs.Functions.{behind_function, check_function, check_items}
+use Rattle.deputy_rules.specs.Heads.{Text}
 use Rattle.check_numbering.specs.declared.refusal.RuleRefusal.{RuleRefusal}
 use Rattle.check_numbering.specs.declared.refusal.RuleRefusal.TheVariants as rule
 use Rattle.check_numbering.specs.Outcome.{fault_in}

@@ -3,13 +3,13 @@ use Rattle.std.proofs.Common.{◌≡◌, ℕ, ◌≤◌, List, [], ◌∷◌, le
 use Rattle.std.proofs.lemmas.List.{drop_all}
 use Rattle.c_tree.specs.declared.expressions.Expr.{Expr}
 use Rattle.checked_tree.specs.declared.shapes.Shape.{Shape}
-use Rattle.deputy_types.specs.declared.asked.Asked.{Asked}
-use Rattle.deputy_types.specs.declared.handed.Passed.{Passed}
+use Rattle.deputy_rules.specs.declared.asked.Asked.{Asked}
+use Rattle.deputy_rules.specs.declared.handed.Passed.{Passed}
 use Rattle.deputy_types.specs.declared.kernel_calls.ArgumentKind.{ArgumentKind}
-use Rattle.deputy_types.specs.declared.kernel_calls.KernelArguments.{KernelArguments}
-use Rattle.deputy_types.specs.declared.signature.Signature.{Signature}
-use Rattle.deputy_types.specs.Calls.{pass_each, kernel_arguments}
-use Rattle.deputy_types.specs.Context.{Context}
+use Rattle.deputy_rules.specs.declared.kernel_arguments.KernelArguments.{KernelArguments}
+use Rattle.deputy_rules.specs.declared.signature.Signature.{Signature}
+use Rattle.deputy_rules.specs.Calls.{pass_each, kernel_arguments}
+use Rattle.deputy_rules.specs.Context.{Context}
 
 pub parameters_left : (ctx : Context) (rest : List (Option Shape)) (args : List Expr) (i : ℕ) (done : List Passed) (asked : List Asked) (o : Option (List Passed × List Asked))
     → length args ≤ i → 1 ≤ length rest → pass_each ctx rest (drop i args) done asked ≡ o → o ≡ None

@@ -3,10 +3,10 @@ use Rattle.std.proofs.Common.{◌≡◌, ℕ, ◌<◌, ◌^◌, List, [], ◌∷
 use Rattle.std.proofs.lemmas.List.{length-map, map-append}
 use Rattle.c_tree.specs.declared.items.Function.{Function}
 use Rattle.c_tree.specs.Bytes.{Text}
-use Rattle.deputy_types.specs.declared.signature.Signature.{Signature}
+use Rattle.deputy_rules.specs.declared.signature.Signature.{Signature}
 use Rattle.dep_infer.specs.Found.{FindsFirst, NotesFirst}
 use Rattle.dep_infer.proofs.Firsts.{noted_at}
-use Rattle.deputy_types.specs.Heads.{signature_of}
+use Rattle.deputy_rules.specs.Heads.{signature_of}
 use Rattle.deputy_types.specs.Table.{Table}
 use Rattle.rules_stmt.specs.Names.{function_names}
 

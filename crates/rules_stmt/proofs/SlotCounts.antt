@@ -6,7 +6,7 @@ use Rattle.c_tree.specs.declared.items.Local.{Local}
 use Rattle.c_tree.specs.Slots.{hidden_slots, is_automatic, slots, parameter, local, low_bound, high_bound}
 use Rattle.checked_tree.specs.declared.shapes.Shape.{Shape}
 use Rattle.checked_tree.specs.declared.shapes.Shape.TheVariants as shape
-use Rattle.deputy_types.specs.Heads.{with_hidden, slot_shapes, parameter_shapes, parameter_shape, parameter_siblings, local_shape, local_siblings}
+use Rattle.deputy_rules.specs.Heads.{with_hidden, slot_shapes, parameter_shapes, parameter_shape, parameter_siblings, local_shape, local_siblings}
 use Rattle.deputy_types.specs.Table.{Table}
 
 abbrev Shapes : Type 0

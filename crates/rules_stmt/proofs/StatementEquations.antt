@@ -5,10 +5,10 @@ use Rattle.c_tree.specs.declared.statements.Body.TheOpen as open_body
 use Rattle.c_tree.specs.declared.statements.Body.TheVariants as body
 use Rattle.c_tree.specs.declared.statements.Stmt.{Stmt}
 use Rattle.checked_tree.specs.declared.statements.CheckedStmt.{CheckedStmt}
-use Rattle.deputy_types.specs.Checking.{Checking, in_turn}
-use Rattle.deputy_types.specs.Context.{Context}
-use Rattle.deputy_types.specs.Numbering.{Numbered}
-use Rattle.deputy_types.specs.Statements.{Home, body_level, statement_level, check_statement, check_body}
+use Rattle.deputy_rules.specs.Checking.{Checking, in_turn}
+use Rattle.deputy_rules.specs.Context.{Context}
+use Rattle.deputy_rules.specs.Numbering.{Numbered}
+use Rattle.deputy_rules.specs.Statements.{Home, body_level, statement_level, check_statement, check_body}
 
 abbrev Bodies : Type 0
 Bodies = Checking Numbered (List CheckedStmt)

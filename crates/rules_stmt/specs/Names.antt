@@ -1,6 +1,6 @@
 -- The names of functions.
 use Rattle.std.specs.Prelude.{ℕ, List, map}
-use Rattle.deputy_types.specs.declared.signature.Signature.{Signature}
+use Rattle.deputy_rules.specs.declared.signature.Signature.{Signature}
 
 -- the names of functions, by number
 abbrev pub function_names : List Signature → List (List ℕ)

@@ -3,7 +3,7 @@ use Rattle.std.specs.Prelude.{◌≡◌, ℕ, List, position}
 use Rattle.c_tree.specs.declared.items.Item.{Item}
 use Rattle.c_tree.specs.Bytes.{Text}
 use Rattle.dep_infer.specs.Found.{found, first_of}
-use Rattle.deputy_types.specs.Heads.{heads_name}
+use Rattle.deputy_rules.specs.Heads.{heads_name}
 
 -- each name is found with the first place that it has as a head, and no other is found
 abbrev pub FindsHeads : List (Text × ℕ) → List Item → Type 0

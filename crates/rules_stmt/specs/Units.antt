@@ -4,9 +4,10 @@ use Rattle.c_tree.specs.declared.items.Item.{Item}
 use Rattle.c_tree.specs.declared.items.Item.TheVariants as item
 use Rattle.c_tree.specs.ShortUnit.{IsShortFunction}
 use Rattle.checked_tree.specs.declared.units.CheckedFn.{CheckedFn}
-use Rattle.deputy_types.specs.Checking.{Fault}
-use Rattle.deputy_types.specs.Functions.{functions_of, check_items}
-use Rattle.deputy_types.specs.Heads.{Text}
+use Rattle.deputy_rules.specs.Checking.{Fault}
+use Rattle.deputy_rules.specs.Functions.{check_items}
+use Rattle.deputy_types.specs.UnitLayout.{functions_of}
+use Rattle.deputy_rules.specs.Heads.{Text}
 use Rattle.deputy_types.specs.Table.{Table, members_of}
 use Rattle.check_numbering.specs.declared.refusal.RuleRefusal.{RuleRefusal}
 use Rattle.check_numbering.specs.declared.refusal.RuleRefusal.TheVariants as rule

@@ -1,12 +1,12 @@
 //! Simple statements, and the controlling expressions of `if` and `while`.
 ghost use Rattle.std.specs.Prelude.{◌≡◌, Some, IfOk};
 ghost use Rattle.checked_tree.specs.declared.statements.CheckedStmt.TheVariants as statement;
-ghost use Rattle.deputy_types.specs.Calls as calls;
-ghost use Rattle.deputy_types.specs.Deriving.{Derives, Gives, bind, pure};
+ghost use Rattle.deputy_rules.specs.Calls as calls;
+ghost use Rattle.deputy_rules.specs.Deriving.{Derives, Gives, bind, pure};
 ghost use Rattle.deputy_types.specs.Options.{and_then};
-ghost use Rattle.deputy_types.specs.Statements as spec;
-ghost use Rattle.deputy_types.specs.Values as values;
-ghost use Rattle.deputy_types.specs.Values.{value_of as value_in};
+ghost use Rattle.deputy_rules.specs.Statements as spec;
+ghost use Rattle.deputy_rules.specs.Values as values;
+ghost use Rattle.deputy_rules.specs.Values.{value_of as value_in};
 ghost use Rattle.rules_stmt.specs.Fits.{Fits};
 
 use crate::arguments::{coerce_value, pass, passed_argument};
@@ -15,7 +15,7 @@ use crate::functions::Functions;
 use crate::kernel::{call, kalloc, kfree};
 use c_tree::{Action, Expr};
 use checked_tree::{CheckedExpr, CheckedStmt, Shape};
-use deputy_types::{Asked, Derived, Passed, Refusal, Returned, UnionPlace, Value};
+use deputy_rules::{Asked, Derived, Passed, Refusal, Returned, UnionPlace, Value};
 use rules_expr::{Context, derive, field_form, of_slots, value_of};
 use sqlite_items::{Boxed, Items};
 use std::alloc::{AllocError, Global};
@@ -31,7 +31,7 @@ pub(crate) struct Home<'a> {
 }
 
 impl<'a> Model for Home<'a> {
-    ghost use Rattle.deputy_types.specs.Statements.{Home as Spec};
+    ghost use Rattle.deputy_rules.specs.Statements.{Home as Spec};
 
     ghost Value = { Spec };
 
@@ -57,7 +57,7 @@ fn clear(
 }
 
 /// `zero(l)` for what was derived.
-#[tactic(auto, unfolding(deputy_types::specs::Deriving::bind, deputy_types::specs::Statements::zero_of))]
+#[tactic(auto, unfolding(deputy_rules::specs::Deriving::bind, deputy_rules::specs::Statements::zero_of))]
 fn zero_of(
     alloc: Global,
     ctx: &Context<'_>,
@@ -79,7 +79,7 @@ fn zero_of(
 }
 
 /// `zero(l)`. No rule where l is no union place.
-#[tactic(auto, unfolding(deputy_types::specs::Deriving::bind, deputy_types::specs::Statements::zero))]
+#[tactic(auto, unfolding(deputy_rules::specs::Deriving::bind, deputy_rules::specs::Statements::zero))]
 fn zero(
     alloc: Global,
     ctx: &Context<'_>,
@@ -93,7 +93,7 @@ fn zero(
 }
 
 /// The value of a `return` that is passed, with the coercion to the result's type.
-#[tactic(auto, unfolding(deputy_types::specs::Deriving::bind))]
+#[tactic(auto, unfolding(deputy_rules::specs::Deriving::bind))]
 fn return_passed(
     alloc: Global,
     ctx: &Context<'_>,
@@ -116,7 +116,7 @@ fn return_passed(
 }
 
 /// The value of a `return`, with the conversion or coercion to the result's type.
-#[tactic(auto, unfolding(deputy_types::specs::Deriving::bind, deputy_types::specs::Statements::return_value))]
+#[tactic(auto, unfolding(deputy_rules::specs::Deriving::bind, deputy_rules::specs::Statements::return_value))]
 fn return_value(
     alloc: Global,
     ctx: &Context<'_>,
@@ -132,7 +132,7 @@ fn return_value(
 }
 
 /// `return` alone stands in a `void` function, and with a value in any other.
-#[tactic(auto, unfolding(deputy_types::specs::Statements::return_from))]
+#[tactic(auto, unfolding(deputy_rules::specs::Statements::return_from))]
 fn return_from(
     alloc: Global,
     ctx: &Context<'_>,
@@ -159,7 +159,7 @@ fn return_from(
 }
 
 /// A simple statement. No rule where none derives it.
-#[tactic(auto, unfolding(deputy_types::specs::Statements::act))]
+#[tactic(auto, unfolding(deputy_rules::specs::Statements::act))]
 pub(crate) fn act(
     alloc: Global,
     ctx: &Context<'_>,
@@ -211,7 +211,7 @@ fn tested(alloc: Global, ctx: &Context<'_>, derived: Derived) -> Result<Boxed<Ch
 }
 
 /// The controlling expression of an `if` or `while` (C99 6.8.4). No rule where it is no integer or pointer expression.
-#[tactic(auto, unfolding(deputy_types::specs::Deriving::bind, deputy_types::specs::Statements::controlling))]
+#[tactic(auto, unfolding(deputy_rules::specs::Deriving::bind, deputy_rules::specs::Statements::controlling))]
 pub(crate) fn controlling(
     alloc: Global,
     ctx: &Context<'_>,

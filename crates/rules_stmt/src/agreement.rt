@@ -1,7 +1,7 @@
 //! When two heads of one function agree: in their results, and in the types and annotations of their parameters, where each name stands for the place of the
 //! parameter that it names (C99 6.2.7 and 6.7.5.3; the annotations are part of the types).
 ghost use Rattle.std.specs.Prelude.{◌≡◌, bytes_eq, option_copied};
-ghost use Rattle.deputy_types.specs.Agreement as spec;
+ghost use Rattle.deputy_rules.specs.Agreement as spec;
 ghost use Rattle.deputy_types.specs.Types as types;
 
 use c_tree::{Addr, Annotation, Base, Head, Param, ResultBase, SignedTerm, Star, Term};
@@ -31,7 +31,7 @@ fn same_place(a: Option<usize>, b: Option<usize>) -> bool
 }
 
 /// Whether names of two heads stand for the same place.
-#[tactic(auto, unfolding(deputy_types::specs::Agreement::same_name))]
+#[tactic(auto, unfolding(deputy_rules::specs::Agreement::same_name))]
 fn same_name(ps: &[Param], qs: &[Param], x: &Name, y: &Name) -> bool
     ensures { result ≡ spec.same_name ps.now qs.now x.now y.now }
 {
@@ -85,7 +85,7 @@ fn same_term_name(ps: &[Param], qs: &[Param], a: Option<&Name>, b: Option<&Name>
 }
 
 /// Whether terms are the same: numbers by value, so `1*n` is `n`, and names by their places.
-#[tactic(auto, unfolding(deputy_types::specs::Agreement::same_term))]
+#[tactic(auto, unfolding(deputy_rules::specs::Agreement::same_term))]
 fn same_term(ps: &[Param], qs: &[Param], a: &SignedTerm, b: &SignedTerm) -> bool
     ensures { result ≡ spec.same_term ps.now qs.now a.now b.now }
 {
@@ -131,7 +131,7 @@ fn same_offset(ps: &[Param], qs: &[Param], a: &Option<SignedTerm>, b: &Option<Si
 }
 
 /// Whether these are the same end of a `bound`.
-#[tactic(auto, unfolding(deputy_types::specs::Agreement::same_end))]
+#[tactic(auto, unfolding(deputy_rules::specs::Agreement::same_end))]
 fn same_end(ps: &[Param], qs: &[Param], a: &Addr, b: &Addr) -> bool
     ensures { result ≡ spec.same_end ps.now qs.now a.now b.now }
 {
@@ -203,7 +203,7 @@ fn is_bound(
 }
 
 /// Whether annotations are the same as written, where neither counts by numbers alone.
-#[tactic(auto, unfolding(deputy_types::specs::Agreement::same_written))]
+#[tactic(auto, unfolding(deputy_rules::specs::Agreement::same_written))]
 fn same_written(ps: &[Param], qs: &[Param], a: &Option<Annotation>, b: &Option<Annotation>) -> bool
     ensures { result ≡ spec.same_written ps.now qs.now a.now b.now }
 {
@@ -234,7 +234,7 @@ fn same_count(a: Option<i64>, b: Option<i64>, written: bool) -> bool
 }
 
 /// Whether stars are the same.
-#[tactic(auto, unfolding(deputy_types::specs::Agreement::same_star))]
+#[tactic(auto, unfolding(deputy_rules::specs::Agreement::same_star))]
 fn same_star(ps: &[Param], qs: &[Param], a: &Star, b: &Star) -> bool
     ensures { result ≡ spec.same_star ps.now qs.now a.now b.now }
 {
@@ -281,7 +281,7 @@ fn same_key(a: Option<Element>, b: Option<Element>) -> bool
 }
 
 /// Whether two bases are the same integer type or struct.
-#[tactic(auto, unfolding(deputy_types::specs::Agreement::same_base))]
+#[tactic(auto, unfolding(deputy_rules::specs::Agreement::same_base))]
 fn same_base(structs: &NameList, a: &Base, b: &Base) -> bool
     ensures { result ≡ spec.same_base structs.now a.now b.now }
 {
@@ -289,7 +289,7 @@ fn same_base(structs: &NameList, a: &Base, b: &Base) -> bool
 }
 
 /// Whether two parameters are the same, whatever their names.
-#[tactic(auto, unfolding(deputy_types::specs::Agreement::same_parameter))]
+#[tactic(auto, unfolding(deputy_rules::specs::Agreement::same_parameter))]
 fn same_parameter(structs: &NameList, ps: &[Param], qs: &[Param], a: &Param, b: &Param) -> bool
     ensures { result ≡ spec.same_parameter structs.now ps.now qs.now a.now b.now }
 {
@@ -347,7 +347,7 @@ fn same_result_base(structs: &NameList, a: &ResultBase, b: &ResultBase) -> bool
 }
 
 /// Whether two heads agree: in their results and their parameters. `structs` are the names of the text's structs.
-#[tactic(auto, unfolding(deputy_types::specs::Agreement::agree))]
+#[tactic(auto, unfolding(deputy_rules::specs::Agreement::agree))]
 pub(crate) fn agree(structs: &NameList, a: &Head, b: &Head) -> bool
     ensures { result ≡ spec.agree structs.now a.now b.now }
 {

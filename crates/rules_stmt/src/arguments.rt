@@ -1,7 +1,7 @@
 //! The arguments of a call: each as its parameter takes it, and the coercions to the parameters' types.
 ghost use Rattle.std.specs.Prelude.{◌≡◌, [], map, IfOk};
-ghost use Rattle.deputy_types.specs.Calls as spec;
-ghost use Rattle.deputy_types.specs.Deriving.{Derives, Gives};
+ghost use Rattle.deputy_rules.specs.Calls as spec;
+ghost use Rattle.deputy_rules.specs.Deriving.{Derives, Gives};
 ghost use Rattle.deputy_types.specs.Options.{and_then};
 ghost use Rattle.checked_tree.specs.declared.shapes.Shape.TheVariants as shaped;
 
@@ -9,7 +9,7 @@ use crate::coerce::coerce_to;
 use crate::convert::{converted_side, handed};
 use c_tree::Expr;
 use checked_tree::{Argument, Bounds, Scalar, Shape, Sum};
-use deputy_types::{Asked, Derived, Handed, Names, Naming, Passed, Refusal};
+use deputy_rules::{Asked, Derived, Handed, Names, Naming, Passed, Refusal};
 use rules_expr::{
     Context, Ids, copy_form, copy_part, copy_sum, derive, integer_of, is_nullterm, sum_of,
 };
@@ -17,7 +17,7 @@ use sqlite_items::Items;
 use std::alloc::{AllocError, Global};
 
 /// An integer argument.
-#[tactic(auto, unfolding(deputy_types::specs::Calls::pass))]
+#[tactic(auto, unfolding(deputy_rules::specs::Calls::pass))]
 fn pass_integer(
     alloc: Global,
     ctx: &Context<'_>,
@@ -36,7 +36,7 @@ fn pass_integer(
 }
 
 /// A pointer argument.
-#[tactic(auto, unfolding(deputy_types::specs::Calls::pass))]
+#[tactic(auto, unfolding(deputy_rules::specs::Calls::pass))]
 fn pass_pointer(
     alloc: Global,
     ctx: &Context<'_>,
@@ -56,7 +56,7 @@ fn pass_pointer(
 }
 
 /// What was derived, as a parameter of this shape takes it. No rule where it has no such type.
-#[tactic(auto, unfolding(deputy_types::specs::Calls::pass))]
+#[tactic(auto, unfolding(deputy_rules::specs::Calls::pass))]
 pub(crate) fn pass(
     alloc: Global,
     ctx: &Context<'_>,
@@ -89,7 +89,7 @@ fn pass_to(
 }
 
 /// One argument.
-#[tactic(auto, unfolding(deputy_types::specs::Deriving::bind, deputy_types::specs::Calls::pass_one))]
+#[tactic(auto, unfolding(deputy_rules::specs::Deriving::bind, deputy_rules::specs::Calls::pass_one))]
 fn pass_one(
     alloc: Global,
     ctx: &Context<'_>,
@@ -104,7 +104,7 @@ fn pass_one(
 }
 
 /// The arguments from left to right, one for each parameter. No rule where there are more or fewer.
-#[tactic(auto, unfolding(deputy_types::specs::Deriving::bind))]
+#[tactic(auto, unfolding(deputy_rules::specs::Deriving::bind))]
 pub(crate) fn pass_each(
     alloc: Global,
     ctx: &Context<'_>,
@@ -202,7 +202,7 @@ pub(crate) fn passed_arguments(
 }
 
 /// Asks for the coercion of a pointer that is handed to this type.
-#[tactic(auto, unfolding(deputy_types::specs::Deriving::bind))]
+#[tactic(auto, unfolding(deputy_rules::specs::Deriving::bind))]
 fn coerce_shape(
     alloc: Global,
     ctx: &Context<'_>,
@@ -225,7 +225,7 @@ fn coerce_shape(
 }
 
 /// Asks for the coercion of a value that is handed to this type. An integer needs no check.
-#[tactic(auto, unfolding(deputy_types::specs::Calls::coerce_value))]
+#[tactic(auto, unfolding(deputy_rules::specs::Calls::coerce_value))]
 pub(crate) fn coerce_value(
     alloc: Global,
     ctx: &Context<'_>,
@@ -264,7 +264,7 @@ fn coerce_passed(
 }
 
 /// Asks for the coercions to the parameters' types in order.
-#[tactic(auto, unfolding(deputy_types::specs::Deriving::bind))]
+#[tactic(auto, unfolding(deputy_rules::specs::Deriving::bind))]
 pub(crate) fn coerce_each(
     alloc: Global,
     ctx: &Context<'_>,

@@ -1,10 +1,10 @@
 //! `l = e` for a local or parameter: the coercion of e to its type, with the present values of the names, and the coercion of each sibling whose type names it.
 ghost use Rattle.std.specs.Prelude.{true, false};
-ghost use Rattle.deputy_types.specs.Assignment as spec;
-ghost use Rattle.deputy_types.specs.Coercion as coercion;
-ghost use Rattle.deputy_types.specs.Context.{slot_shape};
-ghost use Rattle.deputy_types.specs.Deriving.{Derives, bind, lift};
-ghost use Rattle.deputy_types.specs.Values.{integer_of as integer_in};
+ghost use Rattle.deputy_rules.specs.Assignment as spec;
+ghost use Rattle.deputy_rules.specs.Coercion as coercion;
+ghost use Rattle.deputy_rules.specs.Context.{slot_shape};
+ghost use Rattle.deputy_rules.specs.Deriving.{Derives, bind, lift};
+ghost use Rattle.deputy_rules.specs.Values.{integer_of as integer_in};
 ghost use Rattle.rules_stmt.specs.Fits.{Fits};
 
 use crate::changes::slot_changes;
@@ -13,13 +13,14 @@ use crate::convert::{converted_side, handed};
 use crate::store::store;
 use c_tree::Expr;
 use checked_tree::{Bounds, CheckedStmt, PointerOperand, Scalar, Shape};
-use deputy_types::{Asked, Derived, Element, Handed, Refusal, Whole};
+use deputy_rules::{Asked, Derived, Handed, Refusal, Whole};
+use deputy_types::Element;
 use rules_expr::{Context, derive, integer_of, of_slots, sum_of};
 use sqlite_items::Items;
 use std::alloc::Global;
 
 /// To an integer local.
-#[tactic(auto, unfolding(deputy_types::specs::Deriving::bind, deputy_types::specs::Assignment::assign_integer))]
+#[tactic(auto, unfolding(deputy_rules::specs::Deriving::bind, deputy_rules::specs::Assignment::assign_integer))]
 fn assign_integer(
     alloc: Global,
     ctx: &Context<'_>,
@@ -43,7 +44,7 @@ fn assign_integer(
 }
 
 /// To what was derived as an integer.
-#[tactic(auto, unfolding(deputy_types::specs::Deriving::bind))]
+#[tactic(auto, unfolding(deputy_rules::specs::Deriving::bind))]
 fn assign_number(
     alloc: Global,
     ctx: &Context<'_>,
@@ -60,7 +61,7 @@ fn assign_number(
 }
 
 /// To a pointer local that takes its bounds with it, the first of them in the slot `hidden`.
-#[tactic(auto, unfolding(deputy_types::specs::Deriving::bind, deputy_types::specs::Assignment::assign_automatic))]
+#[tactic(auto, unfolding(deputy_rules::specs::Deriving::bind, deputy_rules::specs::Assignment::assign_automatic))]
 fn assign_automatic(
     alloc: Global,
     ctx: &Context<'_>,
@@ -89,7 +90,7 @@ fn assign_automatic(
 }
 
 /// To a pointer local or parameter with an annotation.
-#[tactic(auto, unfolding(deputy_types::specs::Deriving::bind, deputy_types::specs::Assignment::assign_annotated))]
+#[tactic(auto, unfolding(deputy_rules::specs::Deriving::bind, deputy_rules::specs::Assignment::assign_annotated))]
 fn assign_annotated(
     alloc: Global,
     ctx: &Context<'_>,
@@ -114,7 +115,7 @@ fn assign_annotated(
 }
 
 /// To a pointer local that takes its bounds with it, what was derived.
-#[tactic(auto, unfolding(deputy_types::specs::Deriving::bind))]
+#[tactic(auto, unfolding(deputy_rules::specs::Deriving::bind))]
 fn assign_hidden(
     alloc: Global,
     ctx: &Context<'_>,
@@ -131,7 +132,7 @@ fn assign_hidden(
 }
 
 /// To a pointer local or parameter with an annotation, nullterm or not, what was derived.
-#[tactic(auto, unfolding(deputy_types::specs::Deriving::bind))]
+#[tactic(auto, unfolding(deputy_rules::specs::Deriving::bind))]
 fn assign_bounded(
     alloc: Global,
     ctx: &Context<'_>,
@@ -150,7 +151,7 @@ fn assign_bounded(
 }
 
 /// To a pointer local or parameter.
-#[tactic(auto, unfolding(deputy_types::specs::Assignment::assign_pointer))]
+#[tactic(auto, unfolding(deputy_rules::specs::Assignment::assign_pointer))]
 fn assign_pointer(
     alloc: Global,
     ctx: &Context<'_>,
@@ -173,7 +174,7 @@ fn assign_pointer(
 }
 
 /// To a local or parameter of this shape.
-#[tactic(auto, unfolding(deputy_types::specs::Deriving::bind, deputy_types::specs::Assignment::assign_local))]
+#[tactic(auto, unfolding(deputy_rules::specs::Deriving::bind, deputy_rules::specs::Assignment::assign_local))]
 fn assign_local(
     alloc: Global,
     ctx: &Context<'_>,
@@ -197,7 +198,7 @@ fn assign_local(
 }
 
 /// To a local or parameter.
-#[tactic(auto, unfolding(deputy_types::specs::Deriving::bind))]
+#[tactic(auto, unfolding(deputy_rules::specs::Deriving::bind))]
 fn assign_slot(
     alloc: Global,
     ctx: &Context<'_>,
@@ -215,7 +216,7 @@ fn assign_slot(
 }
 
 /// To what was derived.
-#[tactic(auto, unfolding(deputy_types::specs::Assignment::assign_to))]
+#[tactic(auto, unfolding(deputy_rules::specs::Assignment::assign_to))]
 fn assign_to(
     alloc: Global,
     ctx: &Context<'_>,
@@ -237,7 +238,7 @@ fn assign_to(
 
 /// `l = e`: the checks of e, those of l's place, that a terminator stays, the coercion of e to l's type with the present values of the names, the coercion of each
 /// sibling whose type names l, and that a tag's union is clear. No rule where l is no integer or pointer local or place, or e has no such type.
-#[tactic(auto, unfolding(deputy_types::specs::Deriving::bind, deputy_types::specs::Assignment::assign))]
+#[tactic(auto, unfolding(deputy_rules::specs::Deriving::bind, deputy_rules::specs::Assignment::assign))]
 pub(crate) fn assign(
     alloc: Global,
     ctx: &Context<'_>,

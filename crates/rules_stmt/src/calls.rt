@@ -1,22 +1,22 @@
 //! Calls of functions: `f(..)` and `x = f(..)`.
 ghost use Rattle.std.specs.Prelude.{[], map, option_copied};
 ghost use Rattle.checked_tree.specs.declared.statements.CheckedStmt.TheVariants as statement;
-ghost use Rattle.deputy_types.specs.Calls as spec;
-ghost use Rattle.deputy_types.specs.Deriving.{Derives, bind, pure};
+ghost use Rattle.deputy_rules.specs.Calls as spec;
+ghost use Rattle.deputy_rules.specs.Deriving.{Derives, bind, pure};
 
 use crate::arguments::{coerce_each, of_arguments, pass_each, passed_arguments};
 use crate::functions::Functions;
 use crate::targets::call_target;
 use c_tree::Expr;
 use checked_tree::{CheckedStmt, Target};
-use deputy_types::{Asked, Passed, Refusal, Signature};
+use deputy_rules::{Asked, Passed, Refusal, Signature};
 use rules_expr::Context;
 use sd_base::Name;
 use sqlite_items::Items;
 use std::alloc::Global;
 
 /// A call of the function with this number, whose arguments are derived.
-#[tactic(auto, unfolding(deputy_types::specs::Deriving::bind))]
+#[tactic(auto, unfolding(deputy_rules::specs::Deriving::bind))]
 fn call_passed(
     alloc: Global,
     ctx: &Context<'_>,
@@ -44,7 +44,7 @@ fn call_passed(
 }
 
 /// A call of the function with this number.
-#[tactic(auto, unfolding(deputy_types::specs::Deriving::bind, deputy_types::specs::Calls::call_function))]
+#[tactic(auto, unfolding(deputy_rules::specs::Deriving::bind, deputy_rules::specs::Calls::call_function))]
 fn call_function(
     alloc: Global,
     ctx: &Context<'_>,
@@ -66,7 +66,7 @@ fn call_function(
 }
 
 /// A call of the function with this number, if there is one.
-#[tactic(auto, unfolding(deputy_types::specs::Deriving::bind, deputy_types::specs::Calls::call_numbered))]
+#[tactic(auto, unfolding(deputy_rules::specs::Deriving::bind, deputy_rules::specs::Calls::call_numbered))]
 fn call_numbered(
     alloc: Global,
     ctx: &Context<'_>,
@@ -86,7 +86,7 @@ fn call_numbered(
 
 /// A call of the function with this name: each name of a parameter stands for its converted argument. No rule where there is no such function with a body, an
 /// argument is too many or too few or has no such type, or x may not take the result.
-#[tactic(auto, unfolding(deputy_types::specs::Deriving::bind, deputy_types::specs::Calls::call_named))]
+#[tactic(auto, unfolding(deputy_rules::specs::Deriving::bind, deputy_rules::specs::Calls::call_named))]
 pub(crate) fn call_named(
     alloc: Global,
     ctx: &Context<'_>,

@@ -1,16 +1,15 @@
 //! What an assignment changes in the types of its siblings (Hoare's axiom of assignment): each pointer whose annotation names the assigned slot or member has to
 //! fit its own type with the new value in the name's place. All its checks have the kind `Change`.
 ghost use Rattle.std.specs.Prelude.{◌≡◌, ◌<◌, ◌^◌, length, if◌then◌else◌, map, IfOk, [], ◌∷◌};
-ghost use Rattle.deputy_types.specs.Changes as spec;
-ghost use Rattle.deputy_types.specs.Deriving.{Derives, bind, lift};
+ghost use Rattle.deputy_rules.specs.Changes as spec;
+ghost use Rattle.deputy_rules.specs.Deriving.{Derives, bind, lift};
 ghost use Rattle.deputy_types.specs.Table as table;
 ghost use Rattle.rules_stmt.specs.Fits.{Fits};
 
 use crate::coerce::{Fit, coerce};
 use checked_tree::{Bounds, CheckedExpr, Member, Part, Scalar, Shape, Sum, UnionShape};
-use deputy_types::{
-    Asked, AskedCond, Change, Element, Names, Naming, Place, Refusal, TypeTable, bounds_name,
-};
+use deputy_rules::{Asked, AskedCond, Change, Names, Naming, Place, Refusal};
+use deputy_types::{Element, TypeTable, bounds_name};
 use rules_expr::{
     Context, Ids, ask, atom_part, beyond, container, copy_form, copy_sum, high_sum, load_form,
     low_sum, name_sum, one, with_part,
@@ -79,7 +78,7 @@ fn change_at(
 }
 
 /// The same for the sibling with number `i`.
-#[tactic(auto, unfolding(deputy_types::specs::Changes::pointer_change))]
+#[tactic(auto, unfolding(deputy_rules::specs::Changes::pointer_change))]
 fn pointer_change(
     alloc: Global,
     ctx: &Context<'_>,
@@ -96,7 +95,7 @@ fn pointer_change(
 }
 
 /// The same for a pointer to the element with number `elem`.
-#[tactic(auto, unfolding(deputy_types::specs::Deriving::bind))]
+#[tactic(auto, unfolding(deputy_rules::specs::Deriving::bind))]
 fn elem_change(
     alloc: Global,
     ctx: &Context<'_>,
@@ -117,7 +116,7 @@ fn elem_change(
 }
 
 /// The same where the annotation names whose value is new.
-#[tactic(auto, unfolding(deputy_types::specs::Changes::sibling_change))]
+#[tactic(auto, unfolding(deputy_rules::specs::Changes::sibling_change))]
 fn sibling_change(
     alloc: Global,
     ctx: &Context<'_>,
@@ -160,7 +159,7 @@ fn optional_change(
 }
 
 /// The checks of all slots, in the order of their declarations.
-#[tactic(auto, unfolding(deputy_types::specs::Deriving::bind))]
+#[tactic(auto, unfolding(deputy_rules::specs::Deriving::bind))]
 fn each_slot(
     alloc: Global,
     ctx: &Context<'_>,
@@ -179,7 +178,7 @@ fn each_slot(
 }
 
 /// The checks of all members of a struct, in the order of their declarations.
-#[tactic(auto, unfolding(deputy_types::specs::Deriving::bind))]
+#[tactic(auto, unfolding(deputy_rules::specs::Deriving::bind))]
 fn each_member(
     alloc: Global,
     ctx: &Context<'_>,
@@ -198,7 +197,7 @@ fn each_member(
 }
 
 /// Asks for the checks of the siblings of a slot that has a new value.
-#[tactic(auto, unfolding(deputy_types::specs::Changes::slot_changes))]
+#[tactic(auto, unfolding(deputy_rules::specs::Changes::slot_changes))]
 pub(crate) fn slot_changes(
     alloc: Global,
     ctx: &Context<'_>,
@@ -239,7 +238,7 @@ pub(crate) fn struct_names(
 }
 
 /// Asks for the checks of the siblings of a member that has a new value.
-#[tactic(auto, unfolding(deputy_types::specs::Changes::member_changes))]
+#[tactic(auto, unfolding(deputy_rules::specs::Changes::member_changes))]
 pub(crate) fn member_changes(
     alloc: Global,
     ctx: &Context<'_>,

@@ -1,12 +1,13 @@
 //! Coercions: the checks that the bounds of a pointer need where a type takes it.
-ghost use Rattle.deputy_types.specs.Coercion as spec;
-ghost use Rattle.deputy_types.specs.Deriving as asking;
-ghost use Rattle.deputy_types.specs.Deriving.{Derives};
-ghost use Rattle.deputy_types.specs.declared.asked.AskedCond.TheVariants as cond;
-ghost use Rattle.deputy_types.specs.Values as values;
+ghost use Rattle.deputy_rules.specs.Coercion as spec;
+ghost use Rattle.deputy_rules.specs.Deriving as asking;
+ghost use Rattle.deputy_rules.specs.Deriving.{Derives};
+ghost use Rattle.deputy_rules.specs.declared.asked.AskedCond.TheVariants as cond;
+ghost use Rattle.deputy_rules.specs.Values as values;
 
 use checked_tree::{Bounds, Part, Sum};
-use deputy_types::{Asked, AskedCond, Element, Handed, Naming, Refusal};
+use deputy_rules::{Asked, AskedCond, Handed, Naming, Refusal};
+use deputy_types::Element;
 use rules_expr::{Context, Ids, ask, copy_sum, high_sum, low_sum, one, with_part};
 use sd_base::CheckKind;
 use sqlite_items::Items;
@@ -70,7 +71,7 @@ fn ask_multiple(
 }
 
 /// Asks that a pointer stands at a whole number of elements past its low bound, which an element of one byte always does.
-#[tactic(auto, unfolding(deputy_types::specs::Deriving::bind, deputy_types::specs::Coercion::ask_aligned))]
+#[tactic(auto, unfolding(deputy_rules::specs::Deriving::bind, deputy_rules::specs::Coercion::ask_aligned))]
 fn ask_aligned(
     alloc: Global,
     ctx: &Context<'_>,
@@ -91,7 +92,7 @@ fn ask_aligned(
 }
 
 /// Asks for the five checks of a coercion, each of which passes where the pointer is null. The first four have the one kind, the fifth the other.
-#[tactic(auto, unfolding(deputy_types::specs::Deriving::bind, deputy_types::specs::Coercion::coerce))]
+#[tactic(auto, unfolding(deputy_rules::specs::Deriving::bind, deputy_rules::specs::Coercion::coerce))]
 pub(crate) fn coerce(
     alloc: Global,
     ctx: &Context<'_>,
@@ -112,7 +113,7 @@ pub(crate) fn coerce(
 }
 
 /// Asks for the coercion of what is handed over to a pointer type with these bounds. The null constant needs no check.
-#[tactic(auto, unfolding(deputy_types::specs::Coercion::coerce_within))]
+#[tactic(auto, unfolding(deputy_rules::specs::Coercion::coerce_within))]
 fn coerce_within(
     alloc: Global,
     ctx: &Context<'_>,
@@ -139,7 +140,7 @@ fn coerce_within(
 }
 
 /// Asks for the coercion to a pointer type whose annotation bounds it.
-#[tactic(auto, unfolding(deputy_types::specs::Coercion::coerce_to))]
+#[tactic(auto, unfolding(deputy_rules::specs::Coercion::coerce_to))]
 fn coerce_bounded(
     alloc: Global,
     ctx: &Context<'_>,
@@ -159,7 +160,7 @@ fn coerce_bounded(
 }
 
 /// Asks for the coercion to a pointer type with this element and annotation. A nullterm pointer, and one that takes its bounds with it, needs no check.
-#[tactic(auto, unfolding(deputy_types::specs::Coercion::coerce_to))]
+#[tactic(auto, unfolding(deputy_rules::specs::Coercion::coerce_to))]
 pub(crate) fn coerce_to(
     alloc: Global,
     ctx: &Context<'_>,
@@ -181,7 +182,7 @@ pub(crate) fn coerce_to(
 }
 
 /// Asks for the coercion to a pointer type with a constant annotation that lets it reach so many elements.
-#[tactic(auto, unfolding(deputy_types::specs::Coercion::coerce_counted))]
+#[tactic(auto, unfolding(deputy_rules::specs::Coercion::coerce_counted))]
 pub(crate) fn coerce_counted(
     alloc: Global,
     ctx: &Context<'_>,

@@ -1,13 +1,14 @@
 //! Conversions: what a type makes of the expression that it is handed.
 ghost use Rattle.std.specs.Prelude.{◌≡◌, ◌&&◌, if◌then◌else◌, Some, None, IfOk};
-ghost use Rattle.deputy_types.specs.Coercion as spec;
-ghost use Rattle.deputy_types.specs.Deriving.{Gives};
-ghost use Rattle.deputy_types.specs.Operators.{same_truth};
-ghost use Rattle.deputy_types.specs.Pointers as pointers;
+ghost use Rattle.deputy_rules.specs.Coercion as spec;
+ghost use Rattle.deputy_rules.specs.Deriving.{Gives};
+ghost use Rattle.deputy_rules.specs.Operators.{same_truth};
+ghost use Rattle.deputy_rules.specs.Pointers as pointers;
 ghost use Rattle.deputy_types.specs.Types as types;
 
 use checked_tree::{CheckedExpr, Part, Scalar, Unary, converted};
-use deputy_types::{Derived, Element, Handed, Pointed, Refusal, Value, Whole};
+use deputy_rules::{Derived, Handed, Pointed, Refusal, Value, Whole};
+use deputy_types::Element;
 use rules_expr::{
     Context, atom_part, constant, constant_of, constant_part, copy_form, is_written, null_form,
     same_element, unary_form, value_of,
@@ -15,7 +16,7 @@ use rules_expr::{
 use std::alloc::{AllocError, Global};
 
 /// Whether the first type has every value of the second.
-#[tactic(auto, unfolding(deputy_types::specs::Coercion::has_all))]
+#[tactic(auto, unfolding(deputy_rules::specs::Coercion::has_all))]
 fn has_all(to: Scalar, from: Scalar) -> bool
     ensures { result ≡ spec.has_all to from }
 {
@@ -70,7 +71,7 @@ fn side_by(
 
 /// An integer expression in a check after its conversion to a type: the converted constant, the same expression where the type has each of its values, or else
 /// its cast. The only refusal is want of memory.
-#[tactic(auto, unfolding(deputy_types::specs::Coercion::converted_side))]
+#[tactic(auto, unfolding(deputy_rules::specs::Coercion::converted_side))]
 pub(crate) fn converted_side(alloc: Global, scalar: Scalar, w: &Whole) -> Result<Part, AllocError>
     ensures { IfOk result (λ p. p ≡ spec.converted_side scalar w.now) }
 {
@@ -137,7 +138,7 @@ fn handed_pointer(key: Element, nullterm: bool, p: Pointed) -> Result<Handed, Re
 }
 
 /// A value where a pointer to this element is wanted.
-#[tactic(auto, unfolding(deputy_types::specs::Coercion::handed_value))]
+#[tactic(auto, unfolding(deputy_rules::specs::Coercion::handed_value))]
 fn handed_value(
     alloc: Global,
     key: Element,

@@ -3,17 +3,15 @@ ghost use Rattle.std.specs.Prelude.{◌≡◌, ◌++◌, [], ◌∷◌, Some, No
 ghost use Rattle.checked_tree.specs.declared.shapes.Shape.TheVariants as shaped;
 ghost use Rattle.deputy_types.specs.declared.sibling.Unannotated.TheVariants as unannotated;
 ghost use Rattle.deputy_types.specs.Declarations as declarations;
-ghost use Rattle.deputy_types.specs.Heads as spec;
+ghost use Rattle.deputy_rules.specs.Heads as spec;
 ghost use Rattle.deputy_types.specs.Options.{and_then};
 ghost use Rattle.deputy_types.specs.Siblings.{no_siblings, with_sibling};
 
 use c_tree::{Base, Function, Head, Local, Param, ResultBase, Star, TypeName};
 use checked_tree::Shape;
 use dep_infer::is_automatic;
-use deputy_types::{
-    MemberName, Returned, Siblings, Signature, TypeTable, Unannotated, base_key, front_stars,
-    last_star, shape_behind, stars_key,
-};
+use deputy_rules::{Returned, Signature};
+use deputy_types::{MemberName, Siblings, TypeTable, Unannotated, base_key, front_stars, last_star, shape_behind, stars_key};
 use sd_base::{Memory, Name};
 use sqlite_items::Items;
 use std::alloc::Global;
@@ -38,7 +36,7 @@ fn add_sibling(
 }
 
 /// What annotations of parameters can name: the parameters.
-#[tactic(auto, unfolding(deputy_types::specs::Heads::parameter_siblings))]
+#[tactic(auto, unfolding(deputy_rules::specs::Heads::parameter_siblings))]
 fn parameter_siblings(
     alloc: Global,
     table: &TypeTable,
@@ -65,7 +63,7 @@ fn with_locals(table: &TypeTable, locals: &[Local], siblings: Siblings) -> Resul
 }
 
 /// What annotations of locals can name: parameters and locals.
-#[tactic(auto, unfolding(deputy_types::specs::Heads::local_siblings))]
+#[tactic(auto, unfolding(deputy_rules::specs::Heads::local_siblings))]
 fn local_siblings(alloc: Global, table: &TypeTable, f: &Function) -> Result<Siblings, Memory>
     ensures { IfOk result (λ s. s ≡ spec.local_siblings table.now.types f.now) }
 {
@@ -74,7 +72,7 @@ fn local_siblings(alloc: Global, table: &TypeTable, f: &Function) -> Result<Sibl
 }
 
 /// Integers and pointers are what a slot can hold.
-#[tactic(auto, unfolding(deputy_types::specs::Heads::value_shape))]
+#[tactic(auto, unfolding(deputy_rules::specs::Heads::value_shape))]
 fn value_shape(shape: Shape) -> Option<Shape>
     ensures { result ≡ spec.value_shape shape }
 {
@@ -97,7 +95,7 @@ fn if_value(shape: Option<Shape>) -> Option<Shape>
 }
 
 /// The shape that a type name declares for the sibling with this name, if it is that of an integer or a pointer.
-#[tactic(auto, unfolding(deputy_types::specs::Heads::named_shape))]
+#[tactic(auto, unfolding(deputy_rules::specs::Heads::named_shape))]
 fn named_shape(
     alloc: Global,
     table: &TypeTable,
@@ -118,7 +116,7 @@ fn named_shape(
 }
 
 /// The shapes of parameters, by place.
-#[tactic(auto, unfolding(deputy_types::specs::Heads::parameter_shapes))]
+#[tactic(auto, unfolding(deputy_rules::specs::Heads::parameter_shapes))]
 pub(crate) fn parameter_shapes(
     alloc: Global,
     table: &TypeTable,
@@ -188,7 +186,7 @@ fn with_hidden(locals: &[Local], shapes: Shapes) -> Result<Shapes, Memory>
 }
 
 /// The shapes of a function's slots: parameters, locals, then the hidden bounds of the locals.
-#[tactic(auto, unfolding(deputy_types::specs::Heads::slot_shapes))]
+#[tactic(auto, unfolding(deputy_rules::specs::Heads::slot_shapes))]
 pub(crate) fn slot_shapes(alloc: Global, table: &TypeTable, f: &Function) -> Result<Shapes, Memory>
     ensures { IfOk result (λ shapes. shapes ≡ spec.slot_shapes table.now f.now) }
 {
@@ -240,7 +238,7 @@ fn value_result(shape: Option<Shape>) -> Option<Returned>
 }
 
 /// The result of a head: `void`, or an integer or a pointer with a constant annotation. None where it is no such type.
-#[tactic(auto, unfolding(deputy_types::specs::Heads::result_of))]
+#[tactic(auto, unfolding(deputy_rules::specs::Heads::result_of))]
 pub(crate) fn result_of(
     alloc: Global,
     table: &TypeTable,
@@ -259,7 +257,7 @@ pub(crate) fn result_of(
 }
 
 /// What calls see of a function.
-#[tactic(auto, unfolding(deputy_types::specs::Heads::signature_of))]
+#[tactic(auto, unfolding(deputy_rules::specs::Heads::signature_of))]
 pub(crate) fn signature_of(
     alloc: Global,
     table: &TypeTable,

@@ -1,7 +1,7 @@
 //! The first head of each name, found by the hash of the name, whatever the number of items.
 ghost use Rattle.std.specs.Prelude.{◌≡◌, IfOk, OnOk, option_copied, slice_get};
 ghost use Rattle.dep_infer.specs.Found.{NotesFirst};
-ghost use Rattle.deputy_types.specs.Heads as spec;
+ghost use Rattle.deputy_rules.specs.Heads as spec;
 ghost use Rattle.deputy_types.specs.Options.{and_then};
 ghost use Rattle.rules_stmt.specs.Places.{FindsHeads, NotesHead};
 

@@ -1,9 +1,9 @@
 //! `Functions`: the functions of a text with bodies, by number and by name.
 ghost use Rattle.std.specs.Prelude.{◌≡◌, ◌<◌, ◌^◌, ◌++◌, [], ◌∷◌, length, slice_get, option_copied, OnOk};
-ghost use Rattle.deputy_types.specs.Calls.{function_number};
+ghost use Rattle.deputy_rules.specs.Calls.{function_number};
 
 use dep_infer::note_first;
-use deputy_types::Signature;
+use deputy_rules::Signature;
 use indexmap::IndexMap;
 use sd_base::{Memory, Name};
 use sqlite_items::at;
@@ -20,7 +20,7 @@ pub struct Functions {
 
 impl Model for Functions {
     ghost use Rattle.std.specs.Prelude.{List, map};
-    ghost use Rattle.deputy_types.specs.declared.signature.Signature.{Signature as Spec};
+    ghost use Rattle.deputy_rules.specs.declared.signature.Signature.{Signature as Spec};
     ghost use Rattle.dep_infer.specs.Found.{FindsFirst};
     ghost use Rattle.rules_stmt.specs.Names.{function_names};
 

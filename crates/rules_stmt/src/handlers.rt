@@ -2,17 +2,17 @@
 ghost use Rattle.std.specs.Prelude.{◌≡◌, ◌∷◌, Some, option_copied, slice_get};
 ghost use Rattle.checked_tree.specs.declared.shapes.Scalar.TheVariants as scalars;
 ghost use Rattle.checked_tree.specs.declared.shapes.Shape.TheVariants as shaped;
-ghost use Rattle.deputy_types.specs.Calls as spec;
+ghost use Rattle.deputy_rules.specs.Calls as spec;
 ghost use Rattle.deputy_types.specs.Options.{and_then};
 
 use crate::functions::Functions;
 use c_tree::Expr;
 use checked_tree::{Scalar, Shape};
-use deputy_types::{Returned, Signature};
+use deputy_rules::{Returned, Signature};
 use sd_base::Name;
 
 /// The name that an expression is, if it is one, in brackets or not.
-#[tactic(auto, unfolding(deputy_types::specs::Calls::plain_name))]
+#[tactic(auto, unfolding(deputy_rules::specs::Calls::plain_name))]
 fn plain_name(e: &Expr) -> Option<Name>
     ensures { result ≡ spec.plain_name e.now }
 {
@@ -118,7 +118,7 @@ fn handler_named(functions: &Functions, name: &Name) -> Option<u32>
 }
 
 /// The number of the function that is named as a handler: one with a body, one parameter `int` and no result. None where the expression names no such function.
-#[tactic(auto, unfolding(deputy_types::specs::Calls::handler))]
+#[tactic(auto, unfolding(deputy_rules::specs::Calls::handler))]
 pub(crate) fn handler(functions: &Functions, e: &Expr) -> Option<u32>
     ensures { result ≡ spec.handler functions.now e.now }
 {

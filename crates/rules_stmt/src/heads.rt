@@ -1,7 +1,7 @@
 //! Which heads, parameters and locals stand, and the line of the first that does not.
 ghost use Rattle.std.specs.Prelude.{◌≡◌, ◌&&◌, ◌<◌, ◌^◌, length, Some, IfOk, is_some, option_copied};
-ghost use Rattle.deputy_types.specs.Agreement as agreement;
-ghost use Rattle.deputy_types.specs.Heads as spec;
+ghost use Rattle.deputy_rules.specs.Agreement as agreement;
+ghost use Rattle.deputy_rules.specs.Heads as spec;
 
 use crate::agreement::{agree, parameter_place};
 use crate::declared::result_of;
@@ -40,7 +40,7 @@ fn agreed_stands(alloc: Global, text: &Text<'_>, h: &Head) -> Result<bool, Memor
 
 /// Whether a head stands: no kernel call and no global has its name, it agrees with the first head of its name, and its result is derived. The only refusal is want of
 /// memory.
-#[tactic(auto, unfolding(deputy_types::specs::Heads::head_stands))]
+#[tactic(auto, unfolding(deputy_rules::specs::Heads::head_stands))]
 pub(crate) fn head_stands(alloc: Global, text: &Text<'_>, h: &Head) -> Result<bool, Memory>
     ensures { IfOk result (λ b. b ≡ spec.head_stands text.now h.now) }
 {
@@ -64,7 +64,7 @@ fn is_at(number: Option<u32>, k: usize) -> bool
 }
 
 /// Whether the head of the k-th function with a body stands: none before it has its name. The only refusal is want of memory.
-#[tactic(auto, unfolding(deputy_types::specs::Heads::function_stands))]
+#[tactic(auto, unfolding(deputy_rules::specs::Heads::function_stands))]
 pub(crate) fn function_stands(
     alloc: Global,
     text: &Text<'_>,
@@ -92,7 +92,7 @@ fn is_declared(shapes: &[Option<Shape>], i: usize) -> bool
 }
 
 /// Whether the i-th parameter or local stands: it is the first that has its name, and its shape is derived.
-#[tactic(auto, unfolding(deputy_types::specs::Heads::declaration_stands))]
+#[tactic(auto, unfolding(deputy_rules::specs::Heads::declaration_stands))]
 fn declaration_stands(locals: &LocalTable, shapes: &[Option<Shape>], i: usize, name: &Name) -> bool
     ensures { result ≡ spec.declaration_stands locals.now shapes.now i name.now }
 {
@@ -130,7 +130,7 @@ fn wrong_local(
 }
 
 /// The line of the first parameter or local of a function that does not stand.
-#[tactic(auto, unfolding(deputy_types::specs::Heads::wrong_declaration))]
+#[tactic(auto, unfolding(deputy_rules::specs::Heads::wrong_declaration))]
 pub(crate) fn wrong_declaration(
     locals: &LocalTable,
     shapes: &[Option<Shape>],
@@ -147,7 +147,7 @@ pub(crate) fn wrong_declaration(
 }
 
 /// Whether a parameter of a prototype stands likewise.
-#[tactic(auto, unfolding(deputy_types::specs::Heads::prototype_parameter_stands))]
+#[tactic(auto, unfolding(deputy_rules::specs::Heads::prototype_parameter_stands))]
 fn prototype_parameter_stands(
     params: &[Param],
     shapes: &[Option<Shape>],
@@ -170,7 +170,7 @@ fn is_place(place: Option<usize>, i: usize) -> bool
 }
 
 /// The line of the first parameter of a prototype that does not stand, by the shapes of its parameters.
-#[tactic(auto, unfolding(deputy_types::specs::Heads::wrong_in_prototype))]
+#[tactic(auto, unfolding(deputy_rules::specs::Heads::wrong_in_prototype))]
 pub(crate) fn wrong_in_prototype(shapes: &[Option<Shape>], h: &Head) -> Option<u32>
     ensures { result ≡ spec.wrong_in_prototype shapes.now h.now }
 {

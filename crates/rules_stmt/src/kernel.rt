@@ -3,12 +3,12 @@ ghost use Rattle.std.specs.Prelude.{◌≡◌, if◌then◌else◌, Some, None, 
 ghost use Rattle.checked_tree.specs.declared.statements.CheckedStmt.TheVariants as statement;
 ghost use Rattle.checked_tree.specs.declared.kernel.KernelName.TheVariants as kernel;
 ghost use Rattle.deputy_types.specs.declared.kernel_calls.ArgumentKind.TheVariants as argument;
-ghost use Rattle.deputy_types.specs.Calls as spec;
-ghost use Rattle.deputy_types.specs.Coercion as coercion;
+ghost use Rattle.deputy_rules.specs.Calls as spec;
+ghost use Rattle.deputy_rules.specs.Coercion as coercion;
 ghost use Rattle.deputy_types.specs.KernelCalls.{kernel_row};
-ghost use Rattle.deputy_types.specs.Deriving.{Derives, Gives, bind, lift, pure};
+ghost use Rattle.deputy_rules.specs.Deriving.{Derives, Gives, bind, lift, pure};
 ghost use Rattle.deputy_types.specs.Options.{and_then};
-ghost use Rattle.deputy_types.specs.Values.{value_of as value_in};
+ghost use Rattle.deputy_rules.specs.Values.{value_of as value_in};
 
 use crate::calls::call_named;
 use crate::convert::{handed, handed_over, null, null_number};
@@ -18,10 +18,8 @@ use crate::kernel_rows::{answers, argument_kinds};
 use crate::targets::{automatic_target, call_target, free_slot};
 use c_tree::{Expr, TypeName};
 use checked_tree::{Argument, CheckedStmt, KernelName, PointerOperand, Scalar, Shape, Target};
-use deputy_types::{
-    ArgumentKind, Asked, Derived, Element, Handed, KernelArguments, Pointed, Refusal, Returned,
-    Value, kernel_named,
-};
+use deputy_rules::{Asked, Derived, Handed, KernelArguments, Pointed, Refusal, Returned, Value};
+use deputy_types::{ArgumentKind, Element, kernel_named};
 use rules_expr::{Context, derive, integer_of, promoted, value_of};
 use sd_base::Name;
 use sqlite_items::Items;
@@ -50,7 +48,7 @@ fn no_arguments(alloc: Global) -> KernelArguments
 }
 
 /// An integer argument of a kernel call, behind those that are there.
-#[tactic(auto, unfolding(deputy_types::specs::Deriving::bind, deputy_types::specs::Calls::kernel_argument))]
+#[tactic(auto, unfolding(deputy_rules::specs::Deriving::bind, deputy_rules::specs::Calls::kernel_argument))]
 fn number_argument(
     alloc: Global,
     ctx: &Context<'_>,
@@ -72,7 +70,7 @@ fn number_argument(
 }
 
 /// A text that is handed over.
-#[tactic(auto, unfolding(deputy_types::specs::Deriving::bind, deputy_types::specs::Calls::kernel_argument))]
+#[tactic(auto, unfolding(deputy_rules::specs::Deriving::bind, deputy_rules::specs::Calls::kernel_argument))]
 fn text_argument(
     alloc: Global,
     ctx: &Context<'_>,
@@ -91,7 +89,7 @@ fn text_argument(
 }
 
 /// A handler that is handed over.
-#[tactic(auto, unfolding(deputy_types::specs::Deriving::bind, deputy_types::specs::Calls::kernel_argument))]
+#[tactic(auto, unfolding(deputy_rules::specs::Deriving::bind, deputy_rules::specs::Calls::kernel_argument))]
 fn handler_argument(
     ctx: &Context<'_>,
     functions: &Functions,
@@ -131,7 +129,7 @@ fn kernel_argument(
 }
 
 /// The arguments from left to right, one for each of the call's kinds. No rule where there are more or fewer.
-#[tactic(auto, unfolding(deputy_types::specs::Deriving::bind))]
+#[tactic(auto, unfolding(deputy_rules::specs::Deriving::bind))]
 fn kernel_arguments(
     alloc: Global,
     ctx: &Context<'_>,
@@ -200,7 +198,7 @@ fn kernel_form(
 }
 
 /// A kernel call.
-#[tactic(auto, unfolding(deputy_types::specs::Deriving::bind, deputy_types::specs::Calls::call_kernel))]
+#[tactic(auto, unfolding(deputy_rules::specs::Deriving::bind, deputy_rules::specs::Calls::call_kernel))]
 fn call_kernel(
     alloc: Global,
     ctx: &Context<'_>,
@@ -224,7 +222,7 @@ fn call_kernel(
 
 /// `f(..)` and `x = f(..)`, of a kernel call or of a function with a body. No rule where there is none of this name, an argument is too many or too few or has no such
 /// type, or x may not take the result.
-#[tactic(auto, unfolding(deputy_types::specs::Calls::call))]
+#[tactic(auto, unfolding(deputy_rules::specs::Calls::call))]
 pub(crate) fn call(
     alloc: Global,
     ctx: &Context<'_>,
@@ -253,7 +251,7 @@ fn kalloc_target(ctx: &Context<'_>, x: &Name, elem: u32) -> Option<Target>
 }
 
 /// The number of elements, which is taken as a whole number.
-#[tactic(auto, unfolding(deputy_types::specs::Deriving::bind, deputy_types::specs::Calls::counted))]
+#[tactic(auto, unfolding(deputy_rules::specs::Deriving::bind, deputy_rules::specs::Calls::counted))]
 fn counted(
     alloc: Global,
     ctx: &Context<'_>,
@@ -306,7 +304,7 @@ fn kalloc_form(
 }
 
 /// The same with the target x.
-#[tactic(auto, unfolding(deputy_types::specs::Deriving::bind))]
+#[tactic(auto, unfolding(deputy_rules::specs::Deriving::bind))]
 fn kalloc_to(
     alloc: Global,
     ctx: &Context<'_>,
@@ -328,7 +326,7 @@ fn kalloc_to(
 }
 
 /// `x = kalloc(T, e)`. No rule where x is no local or parameter that takes its bounds with it and that no annotation names, its element is not T, or e is no integer.
-#[tactic(auto, unfolding(deputy_types::specs::Deriving::bind, deputy_types::specs::Calls::kalloc))]
+#[tactic(auto, unfolding(deputy_rules::specs::Deriving::bind, deputy_rules::specs::Calls::kalloc))]
 pub(crate) fn kalloc(
     alloc: Global,
     ctx: &Context<'_>,
@@ -360,7 +358,7 @@ fn freed_pointer(p: Pointed) -> Result<Handed, Refusal>
 }
 
 /// A value that is given back: a pointer that is not nullterm, or a null constant.
-#[tactic(auto, unfolding(deputy_types::specs::Calls::freed_value))]
+#[tactic(auto, unfolding(deputy_rules::specs::Calls::freed_value))]
 fn freed_value(alloc: Global, value: Value) -> Result<Handed, Refusal>
     ensures { Gives (spec.freed_value value) result }
 {
@@ -396,7 +394,7 @@ fn kfree_form(alloc: Global, ctx: &Context<'_>, h: Handed) -> CheckedStmt
 }
 
 /// `kfree(e)`. No rule where e is no pointer expression or null constant, or nullterm.
-#[tactic(auto, unfolding(deputy_types::specs::Deriving::bind, deputy_types::specs::Calls::kfree))]
+#[tactic(auto, unfolding(deputy_rules::specs::Deriving::bind, deputy_rules::specs::Calls::kfree))]
 pub(crate) fn kfree(
     alloc: Global,
     ctx: &Context<'_>,

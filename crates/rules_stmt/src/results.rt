@@ -1,11 +1,11 @@
 //! A checked function's slots and result.
 ghost use Rattle.std.specs.Prelude.{◌≡◌, ◌++◌, ◌∷◌, List, Option, IfOk};
 ghost use Rattle.checked_tree.specs.declared.shapes.Shape.{Shape};
-ghost use Rattle.deputy_types.specs.Functions as spec;
+ghost use Rattle.deputy_rules.specs.Functions as spec;
 
 use crate::shape_copies::copy_shape;
 use checked_tree::{Bounds, Scalar, Shape};
-use deputy_types::Returned;
+use deputy_rules::Returned;
 use sqlite_items::Items;
 use std::alloc::{AllocError, Global};
 
@@ -32,7 +32,7 @@ fn reach(bounds: &Bounds) -> u32
 }
 
 /// A result as one number.
-#[tactic(auto, unfolding(deputy_types::specs::Functions::result_scalar))]
+#[tactic(auto, unfolding(deputy_rules::specs::Functions::result_scalar))]
 pub(crate) fn result_scalar(returned: &Returned) -> Scalar
     ensures { result ≡ spec.result_scalar returned.now }
 {

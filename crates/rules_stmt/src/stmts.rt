@@ -1,9 +1,9 @@
 //! Statements and bodies: each with its checks, behind those of the function so far; and the line of the first that no rule derives.
 ghost use Rattle.std.specs.Prelude.{◌≡◌, ◌<◌, ◌^◌, [], map};
 ghost use Rattle.checked_tree.specs.declared.statements.CheckedStmt.TheVariants as statement;
-ghost use Rattle.deputy_types.specs.Checking.{in_turn};
-ghost use Rattle.deputy_types.specs.Deriving.{Derives};
-ghost use Rattle.deputy_types.specs.Statements as spec;
+ghost use Rattle.deputy_rules.specs.Checking.{in_turn};
+ghost use Rattle.deputy_rules.specs.Deriving.{Derives};
+ghost use Rattle.deputy_rules.specs.Statements as spec;
 ghost use Rattle.rules_stmt.specs.Fits.{Fits};
 ghost use Rattle.check_numbering.specs.Building.{numbers_of};
 ghost use Rattle.check_numbering.specs.Outcome.{Checks};
@@ -13,7 +13,7 @@ use crate::actions::{Home, act, controlling};
 use c_tree::{Action, Body, Expr, Simple, Stmt};
 use check_numbering::{Build, RuleRefusal, at_line, number_checks};
 use checked_tree::{CheckedExpr, CheckedStmt};
-use deputy_types::{Asked, Refusal};
+use deputy_rules::{Asked, Refusal};
 use rules_expr::Context;
 use sqlite_items::{Boxed, Items};
 use std::alloc::Global;
@@ -124,7 +124,7 @@ fn condition(
 }
 
 /// A body that is one simple statement.
-#[tactic(auto, unfolding(deputy_types::specs::Checking::afterwards, deputy_types::specs::Statements::single))]
+#[tactic(auto, unfolding(deputy_rules::specs::Checking::afterwards, deputy_rules::specs::Statements::single))]
 fn single(
     alloc: Global,
     ctx: &Context<'_>,
@@ -159,7 +159,7 @@ fn if_form(
 
 /// A statement.
 #[cycle(statement)]
-#[tactic(auto, unfolding(deputy_types::specs::Statements::check_statement, deputy_types::specs::Statements::check_body, deputy_types::specs::Checking::afterwards))]
+#[tactic(auto, unfolding(deputy_rules::specs::Statements::check_statement, deputy_rules::specs::Statements::check_body, deputy_rules::specs::Checking::afterwards))]
 fn check_statement(
     alloc: Global,
     ctx: &Context<'_>,
@@ -197,7 +197,7 @@ fn check_statement(
 
 /// A body.
 #[cycle(statement)]
-#[tactic(auto, using(crate::proofs::StatementEquations::at_block), unfolding(deputy_types::specs::Statements::check_statement, deputy_types::specs::Statements::check_body))]
+#[tactic(auto, using(crate::proofs::StatementEquations::at_block), unfolding(deputy_rules::specs::Statements::check_statement, deputy_rules::specs::Statements::check_body))]
 fn check_body(
     alloc: Global,
     ctx: &Context<'_>,
@@ -216,7 +216,7 @@ fn check_body(
 
 /// Statements in turn. `NoRule` with the line of the first that no rule derives.
 #[cycle(statement)]
-#[tactic(auto, unfolding(deputy_types::specs::Checking::afterwards))]
+#[tactic(auto, unfolding(deputy_rules::specs::Checking::afterwards))]
 pub(crate) fn check_each(
     alloc: Global,
     ctx: &Context<'_>,

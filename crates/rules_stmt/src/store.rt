@@ -1,11 +1,11 @@
 //! `l = e` for a place in memory.
 ghost use Rattle.std.specs.Prelude.{◌≡◌};
 ghost use Rattle.checked_tree.specs.declared.statements.CheckedStmt.TheVariants as statement;
-ghost use Rattle.deputy_types.specs.Assignment as spec;
-ghost use Rattle.deputy_types.specs.Coercion as coercion;
-ghost use Rattle.deputy_types.specs.Deriving as asking;
-ghost use Rattle.deputy_types.specs.Deriving.{Derives, bind, lift};
-ghost use Rattle.deputy_types.specs.Values.{address, integer_of as integer_in, is_nullterm as is_text};
+ghost use Rattle.deputy_rules.specs.Assignment as spec;
+ghost use Rattle.deputy_rules.specs.Coercion as coercion;
+ghost use Rattle.deputy_rules.specs.Deriving as asking;
+ghost use Rattle.deputy_rules.specs.Deriving.{Derives, bind, lift};
+ghost use Rattle.deputy_rules.specs.Values.{address, integer_of as integer_in, is_nullterm as is_text};
 ghost use Rattle.rules_stmt.specs.Fits.{Fits};
 
 use crate::changes::{member_changes, present, struct_names};
@@ -13,7 +13,8 @@ use crate::coerce::{coerce_counted, coerce_to};
 use crate::convert::{converted_side, handed};
 use crate::tags::tag_change;
 use checked_tree::{Bounds, CheckedExpr, CheckedStmt, Scalar, Shape};
-use deputy_types::{Asked, AskedCond, Derived, Element, Handed, Place, Refusal, Source, Whole};
+use deputy_rules::{Asked, AskedCond, Derived, Handed, Place, Refusal, Source, Whole};
+use deputy_types::Element;
 use rules_expr::{Context, Ids, ask, integer_of, is_nullterm, one, sum_of};
 use sd_base::CheckKind;
 use sqlite_items::{Boxed, Items};
@@ -42,7 +43,7 @@ fn store_form(
 }
 
 /// To a place that no sibling names: a pointer to so many elements.
-#[tactic(auto, unfolding(deputy_types::specs::Deriving::bind))]
+#[tactic(auto, unfolding(deputy_rules::specs::Deriving::bind))]
 fn store_reaching(
     alloc: Global,
     ctx: &Context<'_>,
@@ -61,7 +62,7 @@ fn store_reaching(
 }
 
 /// The same of what was derived.
-#[tactic(auto, unfolding(deputy_types::specs::Deriving::bind, deputy_types::specs::Assignment::store_counted))]
+#[tactic(auto, unfolding(deputy_rules::specs::Deriving::bind, deputy_rules::specs::Assignment::store_counted))]
 fn store_counted(
     alloc: Global,
     ctx: &Context<'_>,
@@ -83,7 +84,7 @@ fn store_counted(
 }
 
 /// A pointer to text.
-#[tactic(auto, unfolding(deputy_types::specs::Deriving::bind, deputy_types::specs::Assignment::store_text))]
+#[tactic(auto, unfolding(deputy_rules::specs::Deriving::bind, deputy_rules::specs::Assignment::store_text))]
 fn store_text(
     alloc: Global,
     ctx: &Context<'_>,
@@ -104,7 +105,7 @@ fn store_text(
 }
 
 /// An integer.
-#[tactic(auto, unfolding(deputy_types::specs::Deriving::bind, deputy_types::specs::Assignment::store_integer))]
+#[tactic(auto, unfolding(deputy_rules::specs::Deriving::bind, deputy_rules::specs::Assignment::store_integer))]
 fn store_integer(
     alloc: Global,
     ctx: &Context<'_>,
@@ -120,7 +121,7 @@ fn store_integer(
 }
 
 /// To a global that is no array, or an element.
-#[tactic(auto, unfolding(deputy_types::specs::Assignment::store_element))]
+#[tactic(auto, unfolding(deputy_rules::specs::Assignment::store_element))]
 fn store_element(
     alloc: Global,
     ctx: &Context<'_>,
@@ -141,7 +142,7 @@ fn store_element(
 }
 
 /// To a byte through a nullterm pointer: the terminator is not overwritten, unless by another.
-#[tactic(auto, unfolding(deputy_types::specs::Deriving::bind, deputy_types::specs::Assignment::store_byte))]
+#[tactic(auto, unfolding(deputy_rules::specs::Deriving::bind, deputy_rules::specs::Assignment::store_byte))]
 fn store_byte(
     alloc: Global,
     ctx: &Context<'_>,
@@ -161,7 +162,7 @@ fn store_byte(
 }
 
 /// The same of what was derived.
-#[tactic(auto, unfolding(deputy_types::specs::Deriving::bind))]
+#[tactic(auto, unfolding(deputy_rules::specs::Deriving::bind))]
 fn store_character(
     alloc: Global,
     ctx: &Context<'_>,
@@ -176,7 +177,7 @@ fn store_character(
 }
 
 /// To an integer field or arm: the member with this number, at this offset.
-#[tactic(auto, unfolding(deputy_types::specs::Deriving::bind, deputy_types::specs::Assignment::store_number))]
+#[tactic(auto, unfolding(deputy_rules::specs::Deriving::bind, deputy_rules::specs::Assignment::store_number))]
 fn store_number(
     alloc: Global,
     ctx: &Context<'_>,
@@ -201,7 +202,7 @@ fn store_number(
 }
 
 /// To a pointer field or arm.
-#[tactic(auto, unfolding(deputy_types::specs::Deriving::bind, deputy_types::specs::Assignment::store_pointer))]
+#[tactic(auto, unfolding(deputy_rules::specs::Deriving::bind, deputy_rules::specs::Assignment::store_pointer))]
 fn store_pointer(
     alloc: Global,
     ctx: &Context<'_>,
@@ -223,7 +224,7 @@ fn store_pointer(
 }
 
 /// To an integer field or arm, what was derived.
-#[tactic(auto, unfolding(deputy_types::specs::Deriving::bind))]
+#[tactic(auto, unfolding(deputy_rules::specs::Deriving::bind))]
 fn store_whole(
     alloc: Global,
     ctx: &Context<'_>,
@@ -245,7 +246,7 @@ fn store_whole(
 }
 
 /// To a pointer field or arm to this element, what was derived.
-#[tactic(auto, unfolding(deputy_types::specs::Deriving::bind))]
+#[tactic(auto, unfolding(deputy_rules::specs::Deriving::bind))]
 fn store_bounded(
     alloc: Global,
     ctx: &Context<'_>,
@@ -267,7 +268,7 @@ fn store_bounded(
 }
 
 /// To a field or arm of this shape at this offset.
-#[tactic(auto, unfolding(deputy_types::specs::Deriving::bind, deputy_types::specs::Assignment::store_member))]
+#[tactic(auto, unfolding(deputy_rules::specs::Deriving::bind, deputy_rules::specs::Assignment::store_member))]
 fn store_member(
     alloc: Global,
     ctx: &Context<'_>,
@@ -300,7 +301,7 @@ fn store_member(
 }
 
 /// To a place whose type is declared there.
-#[tactic(auto, unfolding(deputy_types::specs::Deriving::bind))]
+#[tactic(auto, unfolding(deputy_rules::specs::Deriving::bind))]
 fn store_by(
     alloc: Global,
     ctx: &Context<'_>,
@@ -333,7 +334,7 @@ fn store_by(
 }
 
 /// To a place.
-#[tactic(auto, unfolding(deputy_types::specs::Assignment::store))]
+#[tactic(auto, unfolding(deputy_rules::specs::Assignment::store))]
 pub(crate) fn store(
     alloc: Global,
     ctx: &Context<'_>,

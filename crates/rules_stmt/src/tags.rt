@@ -1,10 +1,11 @@
 //! An assignment to a tag: it keeps its value, or all bytes of its union are 0.
 ghost use Rattle.std.specs.Prelude.{◌≡◌, IfOk, option_copied, unwrap_or, option_map, slice_get, [], ◌∷◌};
-ghost use Rattle.deputy_types.specs.Changes as spec;
-ghost use Rattle.deputy_types.specs.Deriving.{Derives};
+ghost use Rattle.deputy_rules.specs.Changes as spec;
+ghost use Rattle.deputy_rules.specs.Deriving.{Derives};
 
 use checked_tree::{Part, Scalar, Sum, UnionShape};
-use deputy_types::{Asked, AskedCond, Place, Refusal, TypeTable};
+use deputy_rules::{Asked, AskedCond, Place, Refusal};
+use deputy_types::TypeTable;
 use rules_expr::{
     Context, Ids, ask, atom_part, beyond, copy_form, copy_sum, load_form, one, with_part,
 };
@@ -35,7 +36,7 @@ fn tagged_in(types: &TypeTable, structure: u32, member: u32) -> Option<UnionShap
 }
 
 /// The address of a union, from that of its tag. The only refusal is want of memory.
-#[tactic(auto, unfolding(deputy_types::specs::Changes::union_address))]
+#[tactic(auto, unfolding(deputy_rules::specs::Changes::union_address))]
 fn union_address(at: Sum, tag: u32, part: u32) -> Result<Sum, AllocError>
     ensures { IfOk result (λ s. s ≡ spec.union_address at tag part) }
 {
@@ -56,7 +57,7 @@ fn loaded(alloc: Global, scalar: Scalar, place: &Place) -> Result<Part, AllocErr
 }
 
 /// Asks that the tag at this place keeps its value, or all bytes of its union are 0.
-#[tactic(auto, unfolding(deputy_types::specs::Deriving::bind, deputy_types::specs::Changes::ask_kept))]
+#[tactic(auto, unfolding(deputy_rules::specs::Deriving::bind, deputy_rules::specs::Changes::ask_kept))]
 fn ask_kept(
     alloc: Global,
     ctx: &Context<'_>,
@@ -99,7 +100,7 @@ fn optional_kept(
 }
 
 /// Asks for the check that an assignment to a member needs where the member is the tag of a union: the tag keeps its value, or all bytes of the union are 0.
-#[tactic(auto, unfolding(deputy_types::specs::Changes::tag_change))]
+#[tactic(auto, unfolding(deputy_rules::specs::Changes::tag_change))]
 pub(crate) fn tag_change(
     alloc: Global,
     ctx: &Context<'_>,

@@ -4,10 +4,11 @@ ghost use Rattle.std.specs.List.{list_any};
 ghost use Rattle.c_tree.specs.Slots.{hidden_slot};
 ghost use Rattle.checked_tree.specs.declared.shapes.Shape.TheVariants as shaped;
 ghost use Rattle.checked_tree.specs.declared.statements.Target.TheVariants as target;
-ghost use Rattle.deputy_types.specs.Calls as spec;
+ghost use Rattle.deputy_rules.specs.Calls as spec;
 
 use checked_tree::{Bounds, Shape, Target};
-use deputy_types::{Returned, shape_names};
+use deputy_rules::Returned;
+use deputy_types::shape_names;
 use rules_expr::{Context, is_nullterm};
 use sd_base::Name;
 
@@ -29,7 +30,7 @@ fn any_names_slot(shapes: &[Option<Shape>], slot: u32) -> bool
 }
 
 /// Whether an annotation names a slot.
-#[tactic(auto, unfolding(deputy_types::specs::Calls::is_named_slot))]
+#[tactic(auto, unfolding(deputy_rules::specs::Calls::is_named_slot))]
 fn is_named_slot(ctx: &Context<'_>, slot: u32) -> bool
     ensures { result ≡ spec.is_named_slot ctx.now slot }
 {
@@ -37,7 +38,7 @@ fn is_named_slot(ctx: &Context<'_>, slot: u32) -> bool
 }
 
 /// The slot of a local or parameter that no annotation names. None where it is named, or there is none of this name.
-#[tactic(auto, unfolding(deputy_types::specs::Calls::free_slot))]
+#[tactic(auto, unfolding(deputy_rules::specs::Calls::free_slot))]
 pub(crate) fn free_slot(ctx: &Context<'_>, name: &Name) -> Option<u32>
     ensures { result ≡ spec.free_slot ctx.now name.now }
 {
@@ -104,7 +105,7 @@ fn hidden_target(ctx: &Context<'_>, slot: u32) -> Option<Target>
 }
 
 /// A local pointer that takes its bounds with it takes a pointer to its element.
-#[tactic(auto, unfolding(deputy_types::specs::Calls::automatic_target))]
+#[tactic(auto, unfolding(deputy_rules::specs::Calls::automatic_target))]
 pub(crate) fn automatic_target(ctx: &Context<'_>, elem: u32, slot: u32) -> Option<Target>
     ensures { result ≡ spec.automatic_target ctx.now elem slot }
 {
@@ -140,7 +141,7 @@ fn text_target(slot: u32, shape: Option<&Shape>) -> Option<Target>
 }
 
 /// The target of a pointer that is a result.
-#[tactic(auto, unfolding(deputy_types::specs::Calls::shape_target))]
+#[tactic(auto, unfolding(deputy_rules::specs::Calls::shape_target))]
 fn pointer_target(ctx: &Context<'_>, slot: u32, elem: u32, bounds: &Bounds) -> Option<Target>
     ensures { result ≡ spec.shape_target ctx.now slot (shaped.Pointer elem bounds.now) }
 {
@@ -152,7 +153,7 @@ fn pointer_target(ctx: &Context<'_>, slot: u32, elem: u32, bounds: &Bounds) -> O
 }
 
 /// The slot as the target of a result of this shape.
-#[tactic(auto, unfolding(deputy_types::specs::Calls::shape_target))]
+#[tactic(auto, unfolding(deputy_rules::specs::Calls::shape_target))]
 fn shape_target(ctx: &Context<'_>, slot: u32, result_shape: &Shape) -> Option<Target>
     ensures { result ≡ spec.shape_target ctx.now slot result_shape.now }
 {
@@ -178,7 +179,7 @@ fn value_target(ctx: &Context<'_>, result_shape: &Shape, name: &Name) -> Option<
 }
 
 /// The target of a call with this result, where a name stands on its left.
-#[tactic(auto, unfolding(deputy_types::specs::Calls::call_target))]
+#[tactic(auto, unfolding(deputy_rules::specs::Calls::call_target))]
 fn named_target(
     ctx: &Context<'_>,
     returned: Option<&Returned>,
@@ -195,7 +196,7 @@ fn named_target(
 
 /// The target of a call with this result: `x = ` before it, where a name stands there; without one the result is dropped. None where x may not take the result: x is
 /// no local or parameter, an annotation names it, or it has another type.
-#[tactic(auto, unfolding(deputy_types::specs::Calls::call_target))]
+#[tactic(auto, unfolding(deputy_rules::specs::Calls::call_target))]
 pub(crate) fn call_target(
     ctx: &Context<'_>,
     returned: Option<&Returned>,

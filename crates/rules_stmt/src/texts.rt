@@ -1,8 +1,8 @@
 //! `Text`: a text, as its functions see it.
 ghost use Rattle.std.specs.Prelude.{◌≡◌, ◌<◌, ◌^◌, ◌++◌, ◌∷◌, List, length, map, position, IfOk, option_copied};
 ghost use Rattle.c_tree.specs.declared.items.Item.{Item as Spec};
-ghost use Rattle.deputy_types.specs.Functions as spec;
-ghost use Rattle.deputy_types.specs.Heads as heads;
+ghost use Rattle.deputy_rules.specs.Functions as spec;
+ghost use Rattle.deputy_rules.specs.Heads as heads;
 ghost use Rattle.rules_stmt.specs.Units.{IsLaidOut};
 
 use crate::declared::signature_of;
@@ -28,7 +28,7 @@ pub(crate) struct Text<'a> {
 }
 
 impl<'a> Model for Text<'a> {
-    ghost use Rattle.deputy_types.specs.Heads.{Text as Spec};
+    ghost use Rattle.deputy_rules.specs.Heads.{Text as Spec};
     ghost use Rattle.c_tree.specs.contracts.items.Item as item;
     ghost use Rattle.std.specs.Coded.{codes};
     ghost use Rattle.rules_stmt.specs.Places.{FindsHeads};
@@ -79,7 +79,7 @@ fn functions_of(alloc: Global, table: &TypeTable, items: &[Item]) -> Result<Func
 
 impl<'a> Text<'a> {
     /// The text of these items with these types. The only refusal is want of memory.
-    #[tactic(auto, unfolding(deputy_types::specs::Functions::text_of))]
+    #[tactic(auto, unfolding(deputy_rules::specs::Functions::text_of))]
     pub(crate) fn new(
         alloc: Global,
         table: &'a TypeTable,
@@ -106,7 +106,7 @@ impl<'a> Text<'a> {
     }
 
     /// The first head with this name. None where there is none.
-    #[tactic(auto, unfolding(deputy_types::specs::Heads::first_head))]
+    #[tactic(auto, unfolding(deputy_rules::specs::Heads::first_head))]
     pub(crate) fn first_head(&self, name: &Name) -> Option<&Head>
         ensures { option_copied result ≡ heads.first_head self.now.items name.now }
     {

@@ -2,8 +2,8 @@
 ghost use Rattle.std.specs.Prelude.{◌≡◌, ◌<◌, ◌^◌, [], All, Ok, length, IfOk};
 ghost use Rattle.c_tree.specs.declared.items.Item.TheVariants as kinds;
 ghost use Rattle.c_tree.specs.ShortUnit.{IsShortFunction, IsShortUnit};
-ghost use Rattle.deputy_types.specs.Functions as spec;
-ghost use Rattle.deputy_types.specs.Heads as declared;
+ghost use Rattle.deputy_rules.specs.Functions as spec;
+ghost use Rattle.deputy_rules.specs.Heads as declared;
 ghost use Rattle.deputy_types.specs.UnitLayout.{layout};
 ghost use Rattle.rules_stmt.specs.Fits.{Fits};
 ghost use Rattle.rules_stmt.specs.Units.{IsChecked, IsLaidOut, IsShortItem, Steps};
@@ -19,7 +19,8 @@ use c_tree::{Function, Head, Item, LimitKind, Unit};
 use check_numbering::{Build, RuleRefusal};
 use checked_tree::{CheckedFn, CheckedUnit};
 use dep_infer::auto_bounds;
-use deputy_types::{Returned, TypeTable};
+use deputy_rules::Returned;
+use deputy_types::TypeTable;
 use rules_expr::Context;
 use sd_base::Memory;
 use sd_base::limits::LOCALS;
@@ -27,7 +28,7 @@ use sqlite_items::Items;
 use std::alloc::Global;
 
 /// The statements of a function with this result.
-#[tactic(auto, unfolding(deputy_types::specs::Functions::check_statements))]
+#[tactic(auto, unfolding(deputy_rules::specs::Functions::check_statements))]
 fn check_statements(
     alloc: Global,
     ctx: &Context<'_>,
@@ -109,7 +110,7 @@ fn check_result(
 }
 
 /// The k-th function with a body.
-#[tactic(auto, unfolding(deputy_types::specs::Functions::check_function))]
+#[tactic(auto, unfolding(deputy_rules::specs::Functions::check_function))]
 fn check_function(
     alloc: Global,
     text: &Text<'_>,
@@ -131,7 +132,7 @@ fn check_function(
 }
 
 /// The line of what does not stand in a prototype.
-#[tactic(auto, unfolding(deputy_types::specs::Functions::wrong_prototype))]
+#[tactic(auto, unfolding(deputy_rules::specs::Functions::wrong_prototype))]
 fn wrong_prototype(alloc: Global, text: &Text<'_>, h: &Head) -> Result<Option<u32>, Memory>
     ensures { IfOk result (λ line. line ≡ spec.wrong_prototype text.now h.now) }
 {
@@ -198,7 +199,7 @@ fn check_items(alloc: Global, text: &Text<'_>) -> Result<Items<CheckedFn>, RuleR
 
 /// Checks a unit, of whose declarations `types` is the table: exactly the checked unit that the rules derive. `NoRule` with the line of the first head, parameter, local
 /// or statement in text order that no rule derives, and `Limit(line, Locals)` at the head of a function with more than 128 slots, `NoRule` first on the same head.
-#[tactic(auto, using(crate::proofs::LaidOut::laid_out, crate::proofs::ShortItems::items_short), unfolding(deputy_types::specs::Functions::checked, deputy_types::specs::Functions::text_of))]
+#[tactic(auto, using(crate::proofs::LaidOut::laid_out, crate::proofs::ShortItems::items_short), unfolding(deputy_rules::specs::Functions::checked, deputy_rules::specs::Functions::text_of))]
 pub fn check_unit(alloc: Global, unit: &Unit, types: &TypeTable) -> Result<CheckedUnit, RuleRefusal>
     requires short { IsShortUnit unit.now }
     requires laid { layout unit.now ≡ Ok types.now }

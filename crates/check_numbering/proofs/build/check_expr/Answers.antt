@@ -1,7 +1,7 @@
 use Rattle.std.proofs.Common.{rules}
-use Rattle.deputy_types.specs.Context.{Context}
-use Rattle.deputy_types.specs.Expressions.{expression}
-use Rattle.deputy_types.specs.Statements.{expression_alone}
+use Rattle.deputy_rules.specs.Context.{Context}
+use Rattle.deputy_rules.specs.Expressions.{expression}
+use Rattle.deputy_rules.specs.Statements.{expression_alone}
 use Rattle.check_numbering.specs.Building.{numbers_of}
 use Rattle.check_numbering.proofs.AtLine.{line_derived, line_unnumbered, line_refused}
 use Rattle.check_numbering.proofs.build.check_expr.Goals as goal

@@ -1,5 +1,5 @@
 use Rattle.std.proofs.Common.{◌≡◌, drop}
-use Rattle.deputy_types.specs.Numbering as spec
+use Rattle.deputy_rules.specs.Numbering as spec
 use Rattle.check_numbering.proofs.forming.with_parts.Given as goal
 
 abbrev pub invariant-loop-part : goal.invariant-loop-part

@@ -1,5 +1,5 @@
 use Rattle.std.proofs.Common.{◌≡◌, drop}
-use Rattle.deputy_types.specs.Values as spec
+use Rattle.deputy_rules.specs.Values as spec
 use Rattle.rules_expr.proofs.names.with_terms.Given as goal
 
 abbrev pub invariant-loop-term : goal.invariant-loop-term

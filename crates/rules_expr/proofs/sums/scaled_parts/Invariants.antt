@@ -1,5 +1,5 @@
 use Rattle.std.proofs.Common.{◌≡◌, map, take}
-use Rattle.deputy_types.specs.Sums as spec
+use Rattle.deputy_rules.specs.Sums as spec
 use Rattle.rules_expr.proofs.sums.scaled_parts.Given as goal
 
 abbrev pub invariant-loop-part : goal.invariant-loop-part

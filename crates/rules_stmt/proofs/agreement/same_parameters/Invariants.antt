@@ -1,5 +1,5 @@
 use Rattle.std.proofs.Common.{◌≡◌, drop}
-use Rattle.deputy_types.specs.Agreement as spec
+use Rattle.deputy_rules.specs.Agreement as spec
 use Rattle.rules_stmt.proofs.agreement.same_parameters.Given as goal
 
 abbrev pub invariant-loop-a : goal.invariant-loop-a

@@ -1,5 +1,5 @@
 use Rattle.std.proofs.Common.{◌≡◌, [], drop}
-use Rattle.deputy_types.specs.Calls as spec
+use Rattle.deputy_rules.specs.Calls as spec
 use Rattle.rules_stmt.proofs.arguments.pass_each.Given as goal
 
 abbrev pub invariant-loop-e : goal.invariant-loop-e

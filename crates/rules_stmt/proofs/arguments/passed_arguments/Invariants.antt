@@ -1,5 +1,5 @@
 use Rattle.std.proofs.Common.{◌≡◌, map, take}
-use Rattle.deputy_types.specs.Calls as spec
+use Rattle.deputy_rules.specs.Calls as spec
 use Rattle.rules_stmt.proofs.arguments.passed_arguments.Given as goal
 
 abbrev pub invariant-loop-arg : goal.invariant-loop-arg

@@ -1,5 +1,5 @@
 use Rattle.std.proofs.Common.{◌≡◌, [], drop}
-use Rattle.deputy_types.specs.Changes as spec
+use Rattle.deputy_rules.specs.Changes as spec
 use Rattle.rules_stmt.proofs.changes.each_slot.Given as goal
 
 abbrev pub invariant-loop-i : goal.invariant-loop-i

@@ -1,5 +1,5 @@
 use Rattle.std.proofs.Common.{◌≡◌, drop}
-use Rattle.deputy_types.specs.Heads as spec
+use Rattle.deputy_rules.specs.Heads as spec
 use Rattle.deputy_types.specs.Siblings.{no_siblings}
 use Rattle.rules_stmt.proofs.declared.parameter_siblings.Given as goal
 

@@ -1,5 +1,5 @@
 use Rattle.std.proofs.Common.{◌≡◌, map, take}
-use Rattle.deputy_types.specs.Heads as spec
+use Rattle.deputy_rules.specs.Heads as spec
 use Rattle.rules_stmt.proofs.declared.shapes_of_parameters.Given as goal
 
 abbrev pub invariant-loop-param : goal.invariant-loop-param

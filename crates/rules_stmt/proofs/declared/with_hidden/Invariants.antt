@@ -1,5 +1,5 @@
 use Rattle.std.proofs.Common.{◌≡◌, drop}
-use Rattle.deputy_types.specs.Heads as spec
+use Rattle.deputy_rules.specs.Heads as spec
 use Rattle.rules_stmt.proofs.declared.with_hidden.Given as goal
 
 abbrev pub invariant-loop-local : goal.invariant-loop-local

@@ -1,5 +1,5 @@
 use Rattle.std.proofs.Common.{◌≡◌, drop}
-use Rattle.deputy_types.specs.Heads as spec
+use Rattle.deputy_rules.specs.Heads as spec
 use Rattle.rules_stmt.proofs.heads.wrong_prototype_parameter.Given as goal
 
 abbrev pub invariant-loop-i : goal.invariant-loop-i

@@ -1,6 +1,6 @@
 use Rattle.std.proofs.Common.{◌≡◌, [], map, drop}
-use Rattle.deputy_types.specs.Checking.{in_turn}
-use Rattle.deputy_types.specs.Statements.{check_statement}
+use Rattle.deputy_rules.specs.Checking.{in_turn}
+use Rattle.deputy_rules.specs.Statements.{check_statement}
 use Rattle.check_numbering.specs.Building.{numbers_of}
 use Rattle.rules_stmt.proofs.stmts.+statement.Given as goal
 

@@ -1,6 +1,6 @@
 use Rattle.std.proofs.Common.{rules}
-use Rattle.deputy_types.specs.Context.{Context}
-use Rattle.deputy_types.specs.Statements.{condition, controlling}
+use Rattle.deputy_rules.specs.Context.{Context}
+use Rattle.deputy_rules.specs.Statements.{condition, controlling}
 use Rattle.check_numbering.specs.Building.{numbers_of}
 use Rattle.check_numbering.proofs.AtLine.{line_derived, line_unnumbered, line_refused}
 use Rattle.rules_stmt.proofs.stmts.condition.Goals as goal

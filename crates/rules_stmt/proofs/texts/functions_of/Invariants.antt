@@ -1,6 +1,6 @@
 use Rattle.std.proofs.Common.{◌≡◌, ◌++◌, map, drop}
-use Rattle.deputy_types.specs.Functions as spec
-use Rattle.deputy_types.specs.Heads.{signature_of}
+use Rattle.deputy_rules.specs.Functions as spec
+use Rattle.deputy_rules.specs.Heads.{signature_of}
 use Rattle.rules_stmt.proofs.texts.functions_of.Given as goal
 
 abbrev pub invariant-loop-item : goal.invariant-loop-item

@@ -1,5 +1,5 @@
 use Rattle.std.proofs.Common.{◌≡◌, [], drop}
-use Rattle.deputy_types.specs.Functions as spec
+use Rattle.deputy_rules.specs.Functions as spec
 use Rattle.rules_stmt.proofs.unit.check_items.Given as goal
 
 abbrev pub invariant-loop-item : goal.invariant-loop-item

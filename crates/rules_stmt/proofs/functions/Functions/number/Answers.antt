@@ -1,5 +1,5 @@
 use Rattle.std.proofs.Common.{◌≡◌, ◌∙◌, subst, bytes_eq, position}
-use Rattle.deputy_types.specs.Calls.{function_number}
+use Rattle.deputy_rules.specs.Calls.{function_number}
 use Rattle.rules_stmt.specs.Names.{function_names}
 use Rattle.rules_stmt.proofs.functions.Functions.number.Goals as goal
 

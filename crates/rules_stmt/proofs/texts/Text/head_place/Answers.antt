@@ -1,5 +1,5 @@
 use Rattle.std.proofs.Common.{◌≡◌, ◌∙◌, subst, position}
-use Rattle.deputy_types.specs.Heads.{heads_name}
+use Rattle.deputy_rules.specs.Heads.{heads_name}
 use Rattle.rules_stmt.proofs.texts.Text.head_place.Goals as goal
 
 pub returns : goal.returns

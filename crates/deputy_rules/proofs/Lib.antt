@@ -1,0 +1,3 @@
+pub mod StatementForms
+pub mod RuleExamples
+pub mod StatementExamples

@@ -3,7 +3,8 @@ use super::CHECKS;
 use crate::tests::tables::wrong_rows;
 use std::test::Fail;
 
-const NAMES: &str = "x = i;
+const PLACES: &str = "// names
+x = i;
 x = gi;
 x = gs;
 x = gu;
@@ -19,9 +20,8 @@ x = a;
   no rule
 x = printd;
   no rule
-";
-
-const FOLLOWED: &str = "x = *p;
+// followed
+x = *p;
   Null -p+1
   Bound -4*n+4
 x = *lo;
@@ -66,6 +66,7 @@ x = *t;
 x = *gt;
   Null -p0:b112+1
 x = *\"ab\";
+
 x = **t;
   no rule
 x = *(void *)0;
@@ -75,13 +76,7 @@ x = *0;
 ";
 
 #[test]
-fn names_are_read(rt: HostRuntime) -> Result<(), Fail> {
-    assert_eq!(rt; wrong_rows(rt.alloc(), &CHECKS, NAMES)?.as_str(), "");
-    Ok(())
-}
-
-#[test]
-fn pointers_are_followed_under_their_checks(rt: HostRuntime) -> Result<(), Fail> {
-    assert_eq!(rt; wrong_rows(rt.alloc(), &CHECKS, FOLLOWED)?.as_str(), "");
+fn names_are_read_and_pointers_followed_under_their_checks(rt: HostRuntime) -> Result<(), Fail> {
+    assert_eq!(rt; wrong_rows(rt.alloc(), &CHECKS, PLACES)?.as_str(), "");
     Ok(())
 }

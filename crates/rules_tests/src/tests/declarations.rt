@@ -2,7 +2,8 @@
 use super::tables::{Show, wrong_texts};
 use std::test::Fail;
 
-const NAMES: &str = "int x; int y; struct x { int x; }; int f(void) { return x; }
+const DECLARATIONS: &str = "// names
+int x; int y; struct x { int x; }; int f(void) { return x; }
   accepted
 struct s { int a; };~struct s { int b; };
   NoDecl(2)
@@ -60,10 +61,8 @@ void g(int a) { return; } int f(int g) { g = request_line(1, g); return g; }
   accepted
 int f(void) { return f; }
   NoRule(1)
-";
-
-/// Structs, and pointers to them.
-const STRUCTS: &str = "struct t {~struct s a; }; struct s { int b; };
+// structs, and pointers to them
+struct t {~struct s a; }; struct s { int b; };
   NoDecl(2)
 struct s {~struct s a; };
   NoDecl(2)
@@ -101,10 +100,8 @@ int f(int x,~struct nowhere *p) { return 0; }
   NoRule(2)
 struct nowhere *f(void) { return 0; }
   NoRule(1)
-";
-
-/// Arrays and initialisers.
-const ARRAYS: &str = "int a[1]; char b[65536]; struct s { short c[2]; int *d[3]; };
+// arrays and initialisers
+int a[1]; char b[65536]; struct s { short c[2]; int *d[3]; };
   accepted
 int x;~int a[0];
   NoDecl(2)
@@ -126,11 +123,8 @@ char *nullterm p = 0;
   NoDecl(1)
 struct s { int a; };~struct s g = 0;
   NoDecl(2)
-";
-
-/// Annotations that are constant: of globals, elements, arms, results, and stars that are not the last.
-const CONSTANT_ANNOTATIONS: &str =
-    "int *p; int *safe q; int *sentinel r; int *count(4) s; int *count(-1) t; int *count(2 - 3 + 4) u; char *nullterm v; unsigned char *nullterm w;
+// annotations that are constant: of globals, elements, arms, results, and stars that are not the last
+int *p; int *safe q; int *sentinel r; int *count(4) s; int *count(-1) t; int *count(2 - 3 + 4) u; char *nullterm v; unsigned char *nullterm w;
   accepted
 int **a; int *count(2) *b; int *sentinel *count(3) c; char *nullterm *d; char *nullterm *count(4) e[5];
   accepted
@@ -190,11 +184,8 @@ int f(int *nullterm p) { return 0; }
   NoRule(1)
 int f(void) {~signed char *nullterm p; return 0; }
   NoRule(2)
-";
-
-/// `count` of integers beside the pointer.
-const COUNTS: &str =
-    "struct s { int *count(n) p; int n; short m; char *count(3*m - n + 2) q; unsigned char k; int *count(-k) r; };
+// `count` of integers beside the pointer
+struct s { int *count(n) p; int n; short m; char *count(3*m - n + 2) q; unsigned char k; int *count(-k) r; };
   accepted
 struct s {~int *count(n) p; };
   NoDecl(2)
@@ -240,11 +231,8 @@ int f(void) { int *n;~int *count(n) p; return 0; }
   NoRule(2)
 int f(void) { int n;~int *count(n + k) p; return 0; }
   NoRule(2)
-";
-
-/// `bound` by pointers beside the pointer.
-const BOUNDS: &str =
-    "struct s { int *bound(a, b) p; int *a; int *count(n) b; int n; int *bound(a + n, b - 2*n) q; int *bound(q, a + 4) r; };
+// `bound` by pointers beside the pointer
+struct s { int *bound(a, b) p; int *a; int *count(n) b; int n; int *bound(a + n, b - 2*n) q; int *bound(q, a + 4) r; };
   accepted
 struct s {~int *bound(p, p) p; };
   NoDecl(2)
@@ -296,11 +284,8 @@ int f(void) { char *nullterm a;~char *bound(a, a) p; return 0; }
   NoRule(2)
 int *a; int f(void) {~int *bound(a, a) p; return 0; }
   NoRule(2)
-";
-
-/// Unions and their tags.
-const UNIONS: &str =
-    "struct s { char t; union { int a when (t == 0); short b when (t == 255); int *c when (t == 'a'); struct s *d when (t == 1); } u; };
+// unions and their tags
+struct s { char t; union { int a when (t == 0); short b when (t == 255); int *c when (t == 'a'); struct s *d when (t == 1); } u; };
   accepted
 struct s { union {~int a when (t == 1); } u; int t; };
   NoDecl(2)
@@ -360,10 +345,8 @@ struct s { int t; union {~struct nowhere *a when (t == 1); } u; };
   NoDecl(2)
 struct s { int t; union {~int *nullterm a when (t == 1); } u; };
   NoDecl(2)
-";
-
-/// Prototypes, and their agreement with other heads of the same name.
-const PROTOTYPES: &str = "int f(void);
+// prototypes, and their agreement with other heads of the same name
+int f(void);
   accepted
 int f(int a);~int f(int b) { return b; }
   accepted
@@ -463,10 +446,8 @@ int f(~struct nowhere *a);
   NoRule(2)
 struct s { int a; };~int f(~struct s a);
   NoRule(3)
-";
-
-/// The first line that is not derived: the head, then parameters and locals, then statements, function by function.
-const FIRST_LINES: &str = "int f(void)~{~int x;~x = y;~x = z; return 0; }
+// the first line of several
+int f(void)~{~int x;~x = y;~x = z; return 0; }
   NoRule(4)
 int f(void)~{~int *nullterm x;~x = y; return 0; }
   NoRule(3)
@@ -493,64 +474,7 @@ int f(void) {~int~x;~x~=~y~;~return 0; }
 ";
 
 #[test]
-fn names_are_distinct(rt: HostRuntime) -> Result<(), Fail> {
-    assert_eq!(rt; wrong_texts(rt.alloc(), Show::Verdict, NAMES)?.as_str(), "");
-    Ok(())
-}
-
-#[test]
-fn structs_and_arrays_are_complete(rt: HostRuntime) -> Result<(), Fail> {
-    assert_eq!(rt;
-        wrong_texts(rt.alloc(), Show::Verdict, STRUCTS)?.as_str(),
-        ""
-    );
-    assert_eq!(rt;
-        wrong_texts(rt.alloc(), Show::Verdict, ARRAYS)?.as_str(),
-        ""
-    );
-    Ok(())
-}
-
-#[test]
-fn annotations_name_what_they_may(rt: HostRuntime) -> Result<(), Fail> {
-    assert_eq!(rt;
-        wrong_texts(rt.alloc(), Show::Verdict, CONSTANT_ANNOTATIONS)?.as_str(),
-        ""
-    );
-    assert_eq!(rt;
-        wrong_texts(rt.alloc(), Show::Verdict, COUNTS)?.as_str(),
-        ""
-    );
-    assert_eq!(rt;
-        wrong_texts(rt.alloc(), Show::Verdict, BOUNDS)?.as_str(),
-        ""
-    );
-    Ok(())
-}
-
-#[test]
-fn unions_have_tags(rt: HostRuntime) -> Result<(), Fail> {
-    assert_eq!(rt;
-        wrong_texts(rt.alloc(), Show::Verdict, UNIONS)?.as_str(),
-        ""
-    );
-    Ok(())
-}
-
-#[test]
-fn heads_of_one_name_agree(rt: HostRuntime) -> Result<(), Fail> {
-    assert_eq!(rt;
-        wrong_texts(rt.alloc(), Show::Verdict, PROTOTYPES)?.as_str(),
-        ""
-    );
-    Ok(())
-}
-
-#[test]
-fn the_first_line_is_named(rt: HostRuntime) -> Result<(), Fail> {
-    assert_eq!(rt;
-        wrong_texts(rt.alloc(), Show::Verdict, FIRST_LINES)?.as_str(),
-        ""
-    );
+fn declarations_stand_or_are_refused_on_their_line(rt: HostRuntime) -> Result<(), Fail> {
+    assert_eq!(rt; wrong_texts(rt.alloc(), Show::Verdict, DECLARATIONS)?.as_str(), "");
     Ok(())
 }

@@ -29,7 +29,8 @@ const FORMS: Frame<'static> = Frame {
     line: 3,
 };
 
-const ARGUMENTS: &str = "x = give(p, n);
+const CALLS: &str = "// arguments
+x = give(p, n);
   Bound 0 | p
   Bound 0 | p
   Bound -4*n | p
@@ -170,9 +171,8 @@ gi(1);
   no rule
 f(p, n, b, lo, hi, t);
   no rule
-";
-
-const RESULTS: &str = "x = off(1);
+// results
+x = off(1);
 ch = off(1);
 w = off(1);
 k = off(1);
@@ -222,9 +222,8 @@ nowhere = off(1);
   no rule
 off = off(1);
   no rule
-";
-
-const KERNEL: &str = "printd(x);
+// kernel
+printd(x);
 printd(w);
 printd(p[0]);
   Null -p+1
@@ -370,20 +369,13 @@ lock(3);
 ";
 
 #[test]
-fn arguments_are_coerced_to_their_parameters(rt: HostRuntime) -> Result<(), Fail> {
-    assert_eq!(rt; wrong_rows(rt.alloc(), &CHECKS, ARGUMENTS)?.as_str(), "");
+fn calls_have_the_checks_of_their_arguments(rt: HostRuntime) -> Result<(), Fail> {
+    assert_eq!(rt; wrong_rows(rt.alloc(), &CHECKS, CALLS)?.as_str(), "");
     Ok(())
 }
 
 #[test]
-fn a_local_takes_the_result_of_a_call(rt: HostRuntime) -> Result<(), Fail> {
-    assert_eq!(rt; wrong_rows(rt.alloc(), &CHECKS, RESULTS)?.as_str(), "");
-    Ok(())
-}
-
-#[test]
-fn the_kernel_is_called_by_its_table(rt: HostRuntime) -> Result<(), Fail> {
-    assert_eq!(rt; wrong_rows(rt.alloc(), &CHECKS, KERNEL)?.as_str(), "");
+fn calls_have_their_forms(rt: HostRuntime) -> Result<(), Fail> {
     assert_eq!(rt; wrong_rows(rt.alloc(), &FORMS, CALL_FORMS)?.as_str(), "");
     Ok(())
 }

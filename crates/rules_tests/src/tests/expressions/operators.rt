@@ -3,7 +3,8 @@ use super::CHECKS;
 use crate::tests::tables::wrong_rows;
 use std::test::Fail;
 
-const DIVISIONS: &str = "x = i / n;
+const OPERATORS: &str = "// divisions
+x = i / n;
   Div n not 0
 x = i % 3;
   Div 3 not 0
@@ -51,9 +52,8 @@ x = i / g;
   no rule
 x = i / (void *)0;
   no rule
-";
-
-const COMPARISONS: &str = "x = i < n;
+// comparisons
+x = i < n;
 x = i <= u;
 x = ch > sh;
 x = i >= 0;
@@ -73,7 +73,89 @@ x = (0) != p;
 x = p == (void *)0;
 x = (void *)0 != p;
 x = t == gt;
-x = t < \"ab\";
+x = t < \"ab\// logic
+x = !i;
+x = !p;
+x = !t;
+x = !a;
+x = !\"ab\// integers
+x = i + n * 2 - 3 & 4 | 5 ^ ~6 << 7 >> u;
+x = -i;
+x = +ch;
+x = i + g;
+  no rule
+x = i * p;
+  no rule
+x = p | i;
+  no rule
+x = i ^ t;
+  no rule
+x = i << p;
+  no rule
+x = a >> i;
+  no rule
+x = i - (void *)0;
+  no rule
+x = -g;
+  no rule
+x = -(void *)0;
+  no rule
+// casts
+x = (char)i;
+x = (long)u;
+x = (signed char)p[0];
+  Null -p+1
+  Bound 0
+  Bound -4*n+4
+x = (int)p;
+  no rule
+q = (int *)i;
+  no rule
+q = (int *)q;
+  no rule
+q = (int *)0;
+  no rule
+x = (struct s)g;
+  no rule
+x = (int)g;
+  no rule
+x = (char)(void *)0;
+  no rule
+x = (int)t;
+  no rule
+x = (struct nowhere)i;
+  no rule
+q = (int *safe)q;
+  no rule
+// sizes
+x = sizeof(struct s);
+x = sizeof(int *);
+x = sizeof(struct s *);
+x = sizeof(int *count(4));
+x = sizeof(int *count(-1));
+x = sizeof(int *sentinel);
+x = sizeof(char *nullterm);
+x = sizeof(unsigned char *nullterm);
+x = sizeof(int **);
+x = sizeof(int *count(2) *safe);
+x = sizeof(int *count(n));
+  no rule
+x = sizeof(int *count(0*n));
+  no rule
+x = sizeof(int *bound(lo, hi));
+  no rule
+x = sizeof(int *count(n) *safe);
+  no rule
+x = sizeof(int *nullterm);
+  no rule
+x = sizeof(signed char *nullterm);
+  no rule
+x = sizeof(struct nowhere);
+  no rule
+x = sizeof(struct nowhere *);
+  no rule
+";
+
 x = t == 0;
 x = t != (void *)0;
 x = sp == &g;
@@ -124,11 +206,6 @@ x = f == 0;
   no rule
 ";
 
-const LOGIC: &str = "x = !i;
-x = !p;
-x = !t;
-x = !a;
-x = !\"ab\";
 x = !!p;
 x = i && n;
 x = p && i;
@@ -163,92 +240,8 @@ x = i && f;
   no rule
 ";
 
-const INTEGERS: &str = "x = i + n * 2 - 3 & 4 | 5 ^ ~6 << 7 >> u;
-x = -i;
-x = +ch;
-x = i + g;
-  no rule
-x = i * p;
-  no rule
-x = p | i;
-  no rule
-x = i ^ t;
-  no rule
-x = i << p;
-  no rule
-x = a >> i;
-  no rule
-x = i - (void *)0;
-  no rule
-x = -g;
-  no rule
-x = -(void *)0;
-  no rule
-";
-
-const CASTS: &str = "x = (char)i;
-x = (long)u;
-x = (signed char)p[0];
-  Null -p+1
-  Bound 0
-  Bound -4*n+4
-x = (int)p;
-  no rule
-q = (int *)i;
-  no rule
-q = (int *)q;
-  no rule
-q = (int *)0;
-  no rule
-x = (struct s)g;
-  no rule
-x = (int)g;
-  no rule
-x = (char)(void *)0;
-  no rule
-x = (int)t;
-  no rule
-x = (struct nowhere)i;
-  no rule
-q = (int *safe)q;
-  no rule
-";
-
-const SIZES: &str = "x = sizeof(struct s);
-x = sizeof(int *);
-x = sizeof(struct s *);
-x = sizeof(int *count(4));
-x = sizeof(int *count(-1));
-x = sizeof(int *sentinel);
-x = sizeof(char *nullterm);
-x = sizeof(unsigned char *nullterm);
-x = sizeof(int **);
-x = sizeof(int *count(2) *safe);
-x = sizeof(int *count(n));
-  no rule
-x = sizeof(int *count(0*n));
-  no rule
-x = sizeof(int *bound(lo, hi));
-  no rule
-x = sizeof(int *count(n) *safe);
-  no rule
-x = sizeof(int *nullterm);
-  no rule
-x = sizeof(signed char *nullterm);
-  no rule
-x = sizeof(struct nowhere);
-  no rule
-x = sizeof(struct nowhere *);
-  no rule
-";
-
 #[test]
 fn integers_and_pointers_are_computed_with(rt: HostRuntime) -> Result<(), Fail> {
-    assert_eq!(rt; wrong_rows(rt.alloc(), &CHECKS, DIVISIONS)?.as_str(), "");
-    assert_eq!(rt; wrong_rows(rt.alloc(), &CHECKS, COMPARISONS)?.as_str(), "");
-    assert_eq!(rt; wrong_rows(rt.alloc(), &CHECKS, LOGIC)?.as_str(), "");
-    assert_eq!(rt; wrong_rows(rt.alloc(), &CHECKS, INTEGERS)?.as_str(), "");
-    assert_eq!(rt; wrong_rows(rt.alloc(), &CHECKS, CASTS)?.as_str(), "");
-    assert_eq!(rt; wrong_rows(rt.alloc(), &CHECKS, SIZES)?.as_str(), "");
+    assert_eq!(rt; wrong_rows(rt.alloc(), &CHECKS, OPERATORS)?.as_str(), "");
     Ok(())
 }

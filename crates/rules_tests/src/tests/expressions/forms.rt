@@ -3,8 +3,8 @@ use super::FORMS;
 use crate::tests::tables::wrong_rows;
 use std::test::Fail;
 
-/// The types and the forms of integers (C99 6.3.1.1, 6.3.1.8, 6.5.7): promotion, the common type, the type of a shift, constants.
-const INTEGER_FORMS: &str = "x = ch + sh;
+const EXPRESSION_FORMS: &str = "// the types and the forms of integers (C99 6.3.1.1, 6.3.1.8, 6.5.7): promotion, the common type, the type of a shift, constants
+x = ch + sh;
   3 x = i32 i32(ch + sh);
 x = u + i;
   3 x = i32 u32(u + i);
@@ -110,10 +110,8 @@ sc = u;
   3 sc = i8 u;
 w = ch;
   3 w = u32 ch;
-";
-
-/// The forms of places and pointers, with the bounds that a local takes along.
-const POINTER_FORMS: &str = "x = p[i];
+// the forms of places and pointers, with the bounds that a local takes along
+x = p[i];
   3 x = i32 i32:p[4*i]#1#2#3;
 x = p[u];
   3 x = i32 i32:p[4*u]#1#2;
@@ -186,6 +184,7 @@ sq = &h[1];
 cq = g.u.q;
   3 cq with cq.low = p0:b16.28#1 in [p0:b16.28, p0:b16.28 + 1);
 tt = \"ab\";
+
   3 tt = p0 &b288;
 tt = \"ab\" + 1;
   3 tt = p0 (&b288 + 1*1)#1;
@@ -207,7 +206,6 @@ x = p[0] && p[1];
 
 #[test]
 fn expressions_have_their_types(rt: HostRuntime) -> Result<(), Fail> {
-    assert_eq!(rt; wrong_rows(rt.alloc(), &FORMS, INTEGER_FORMS)?.as_str(), "");
-    assert_eq!(rt; wrong_rows(rt.alloc(), &FORMS, POINTER_FORMS)?.as_str(), "");
+    assert_eq!(rt; wrong_rows(rt.alloc(), &FORMS, EXPRESSION_FORMS)?.as_str(), "");
     Ok(())
 }

@@ -3,7 +3,8 @@ use super::CHECKS;
 use crate::tests::tables::wrong_rows;
 use std::test::Fail;
 
-const INTEGER_LOCALS: &str = "x = 5;
+const LOCALS: &str = "// integer locals
+x = 5;
 n = 5;
   Change 0 | p
   Change 0 | p
@@ -110,11 +111,8 @@ x = g;
   no rule
 x = f;
   no rule
-x = \"ab\";
-  no rule
-";
-
-const POINTER_LOCALS: &str = "l = q;
+x = \"ab\// pointer locals
+l = q;
   Bound q.low-q | q
   Bound 0 | q
   Bound -4*j | q
@@ -281,15 +279,11 @@ q = f;
   no rule
 ";
 
+  no rule
+";
+
 #[test]
 fn an_assigned_local_keeps_the_types_that_name_it(rt: HostRuntime) -> Result<(), Fail> {
-    assert_eq!(rt;
-        wrong_rows(rt.alloc(), &CHECKS, INTEGER_LOCALS)?.as_str(),
-        ""
-    );
-    assert_eq!(rt;
-        wrong_rows(rt.alloc(), &CHECKS, POINTER_LOCALS)?.as_str(),
-        ""
-    );
+    assert_eq!(rt; wrong_rows(rt.alloc(), &CHECKS, LOCALS)?.as_str(), "");
     Ok(())
 }

@@ -3,7 +3,8 @@ use super::CHECKS;
 use crate::tests::tables::wrong_rows;
 use std::test::Fail;
 
-const PLACES: &str = "gi = x;
+const ASSIGNED: &str = "// places
+gi = x;
 gs = w;
 a[x] = 1;
   Bound -4*x
@@ -47,91 +48,8 @@ gp = gc;
   Align 0 by 4 | p0:b160
 gp = 0;
 gt = t;
-gt = \"ab\";
-gt = 0;
-gt = cq;
-  no rule
-gp = x;
-  no rule
-gp = cq;
-  no rule
-gi = q;
-  no rule
-*t = 5;
-  Null -t+1
-  Term at t new 5
-*t = 0;
-  Null -t+1
-  Term at t new 0
-*t = x;
-  Null -t+1
-  Term at t new u8(x)
-*t = ch;
-  Null -t+1
-  Term at t new ch
-*t = 256;
-  Null -t+1
-  Term at t new 0
-*t = -1;
-  Null -t+1
-  Term at t new 255
-*t = *t;
-  Null -t+1
-  Null -t+1
-  Term at t new u8:*t
-*t = w;
-  Null -t+1
-  Term at t new u8(w)
-t[0] = 'a';
-  Null -t+1
-  Term at t new 97
-t[1] = 'a';
-  Null -t+1
-  Term at t
-  Term at t+1 new 97
-*gt = 1;
-  Null -p0:b128+1
-  Term at p0:b128 new 1
-*\"ab\" = 'x';
-  Term at 224 new 120
-t[2] = 1;
-  no rule
-*t = t;
-  no rule
-a = p;
-  no rule
-g = g;
-  no rule
-*sp = s;
-  no rule
-g.u = 0;
-  no rule
-5 = x;
-  no rule
-&gi = p;
-  no rule
-\"ab\" = t;
-  no rule
--x = 1;
-  no rule
-f = 1;
-  no rule
-printd = 1;
-  no rule
-nowhere = 1;
-  no rule
-s.nothing = 1;
-  no rule
-*x = 1;
-  no rule
-(void *)0 = 0;
-  no rule
-nowhere = nowhere;
-  no rule
-";
-
-/// Fields that siblings name, and arms and tags of unions.
-const FIELDS: &str = "s.len = 5;
+gt = \"ab\// fields that siblings name, and arms and tags of unions
+s.len = 5;
   Change 0 | p0:b32.4
   Change 0 | p0:b32.4
   Change -20 | p0:b32.4
@@ -280,9 +198,90 @@ zero(nowhere);
   no rule
 ";
 
+gt = 0;
+gt = cq;
+  no rule
+gp = x;
+  no rule
+gp = cq;
+  no rule
+gi = q;
+  no rule
+*t = 5;
+  Null -t+1
+  Term at t new 5
+*t = 0;
+  Null -t+1
+  Term at t new 0
+*t = x;
+  Null -t+1
+  Term at t new u8(x)
+*t = ch;
+  Null -t+1
+  Term at t new ch
+*t = 256;
+  Null -t+1
+  Term at t new 0
+*t = -1;
+  Null -t+1
+  Term at t new 255
+*t = *t;
+  Null -t+1
+  Null -t+1
+  Term at t new u8:*t
+*t = w;
+  Null -t+1
+  Term at t new u8(w)
+t[0] = 'a';
+  Null -t+1
+  Term at t new 97
+t[1] = 'a';
+  Null -t+1
+  Term at t
+  Term at t+1 new 97
+*gt = 1;
+  Null -p0:b128+1
+  Term at p0:b128 new 1
+*\"ab\" = 'x';
+  Term at 224 new 120
+t[2] = 1;
+  no rule
+*t = t;
+  no rule
+a = p;
+  no rule
+g = g;
+  no rule
+*sp = s;
+  no rule
+g.u = 0;
+  no rule
+5 = x;
+  no rule
+&gi = p;
+  no rule
+\"ab\" = t;
+  no rule
+-x = 1;
+  no rule
+f = 1;
+  no rule
+printd = 1;
+  no rule
+nowhere = 1;
+  no rule
+s.nothing = 1;
+  no rule
+*x = 1;
+  no rule
+(void *)0 = 0;
+  no rule
+nowhere = nowhere;
+  no rule
+";
+
 #[test]
 fn an_assigned_place_keeps_the_types_that_name_it(rt: HostRuntime) -> Result<(), Fail> {
-    assert_eq!(rt; wrong_rows(rt.alloc(), &CHECKS, PLACES)?.as_str(), "");
-    assert_eq!(rt; wrong_rows(rt.alloc(), &CHECKS, FIELDS)?.as_str(), "");
+    assert_eq!(rt; wrong_rows(rt.alloc(), &CHECKS, ASSIGNED)?.as_str(), "");
     Ok(())
 }

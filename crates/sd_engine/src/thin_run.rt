@@ -1,14 +1,13 @@
 //! A thin run: one driver, one task, and the lines as they come.
-ghost use Rattle.std.specs.Prelude.{◌≡◌, ◌≤◌, ◌++◌, ◌∷◌, [], IfOk, OnOk, OnErr, length, pos};
-ghost use Rattle.std.specs.Fmt.{signed_decimal};
+ghost use Rattle.std.specs.Prelude.{◌≡◌, IfOk, OnOk, OnErr};
 ghost use Rattle.sd_outside.specs.Counts.{HasCause};
 ghost use Rattle.sd_outside.specs.Sink.{IsCut, more};
-ghost use Rattle.sd_engine.specs.ThinRun.{event_lines, last_line as line_at_end, lines_from, load_line as line_of_load, loaded as stage_of_load, is_return as ends_function, number_line as line_of_number, run_lines, run_stage, stage_after, statement_line as line_of_statement};
+ghost use Rattle.sd_engine.specs.ThinRun.{event_lines, is_return as ends_function, last_item as item_at_end, lines_from, load_item as item_of_load, loaded as stage_of_load, run_lines, run_stage, stage_after, statement_item as item_of_statement};
 
+use crate::lines::{Printed, print_item, print_optional};
 use crate::thin_program::Statement;
 use crate::thin_scenario::Event;
-use sd_base::Line;
-use sd_outside::{Sink, WriteFault, write_all};
+use sd_outside::{Sink, WriteFault};
 
 /// The most steps of a run: one for each statement that is run.
 const MOST_STEPS: usize = 100_000;
@@ -46,7 +45,7 @@ pub fn thin_run<K: Sink>(
     for event in events {
         stage = thin_event(sink, statements, stage, *event)?;
     }
-    let ended = write_last(sink, stage);
+    let ended = print_item(sink, last_item(stage));
     ended
 }
 
@@ -64,13 +63,13 @@ fn thin_event<K: Sink>(
 {
     match event {
         Event::Load => {
-            write_all(sink, load_line(stage))?;
+            print_optional(sink, load_item(stage))?;
             Ok(loaded(stage))
         }
         Event::Finish => match stage {
             Stage::Ready => run_init(sink, statements),
             Stage::NoInit | Stage::Absent | Stage::Over(_) => {
-                write_all(sink, b"t1 idle\n")?;
+                print_item(sink, Printed::Idle)?;
                 Ok(stage)
             }
             Stage::Stopped => Ok(stage),
@@ -78,15 +77,15 @@ fn thin_event<K: Sink>(
     }
 }
 
-/// What a load writes at a stage.
-fn load_line(stage: Stage) -> &'static [u8]
-    ensures { result.now ≡ line_of_load stage }
+/// What a load prints at a stage.
+fn load_item(stage: Stage) -> Option<Printed>
+    ensures { result ≡ item_of_load stage }
 {
     match stage {
-        Stage::NoInit => b"d1 load refused: no init\n",
-        Stage::Absent => b"d1 loaded\n",
-        Stage::Ready | Stage::Over(_) => b"d1 load refused: loaded\n",
-        Stage::Stopped => b"",
+        Stage::NoInit => Some(Printed::NoInit),
+        Stage::Absent => Some(Printed::Loaded),
+        Stage::Ready | Stage::Over(_) => Some(Printed::LoadedAlready),
+        Stage::Stopped => None,
     }
 }
 
@@ -112,7 +111,7 @@ fn run_init<K: Sink>(sink: &mut K, statements: &[Statement]) -> Result<Stage, Wr
         if steps == MOST_STEPS {
             return Ok(Stage::Stopped);
         }
-        write_statement(sink, *statement)?;
+        print_optional(sink, statement_item(*statement))?;
         steps += 1;
         if is_return(*statement) {
             return Ok(Stage::Over(steps));
@@ -121,7 +120,7 @@ fn run_init<K: Sink>(sink: &mut K, statements: &[Statement]) -> Result<Stage, Wr
     if steps == MOST_STEPS {
         return Ok(Stage::Stopped);
     }
-    write_statement(sink, Statement::Return(0))?;
+    print_item(sink, Printed::Done { value: 0 })?;
     Ok(Stage::Over(steps + 1))
 }
 
@@ -135,71 +134,24 @@ fn is_return(statement: Statement) -> bool
     }
 }
 
-/// Writes the line of a statement.
-fn write_statement<K: Sink>(sink: &mut K, statement: Statement) -> Result<(), WriteFault>
-    ensures ok { OnOk result (K.written sink.new ≡ more (K.written sink.old) (line_of_statement statement)) }
-    ensures err { OnErr result (IsCut (K.written sink.new) (more (K.written sink.old) (line_of_statement statement))) }
-    ensures cause { HasCause (K.faults sink.old) (K.faults sink.new) result }
-{
-    let line = statement_line(statement);
-    let written = write_all(sink, line.bytes());
-    written
-}
-
-/// The line of a statement; an empty one has none.
-fn statement_line(statement: Statement) -> Line
-    ensures { result ≡ line_of_statement statement }
+/// What a statement prints; an empty one nothing.
+fn statement_item(statement: Statement) -> Option<Printed>
+    ensures { result ≡ item_of_statement statement }
 {
     match statement {
-        Statement::Print(number) => number_line(b"d1 t1 print ", number as i128),
-        Statement::Return(number) => number_line(b"d1 t1 done ", number as i128),
-        Statement::Empty => Line::new(),
+        Statement::Print(value) => Some(Printed::Print { value }),
+        Statement::Return(value) => Some(Printed::Done { value }),
+        Statement::Empty => None,
     }
 }
 
-/// Writes the last line of a run.
-fn write_last<K: Sink>(sink: &mut K, stage: Stage) -> Result<(), WriteFault>
-    ensures ok { OnOk result (K.written sink.new ≡ more (K.written sink.old) (line_at_end stage)) }
-    ensures err { OnErr result (IsCut (K.written sink.new) (more (K.written sink.old) (line_at_end stage))) }
-    ensures cause { HasCause (K.faults sink.old) (K.faults sink.new) result }
+/// What is printed last.
+fn last_item(stage: Stage) -> Printed
+    ensures { result ≡ item_at_end stage }
 {
     match stage {
-        Stage::NoInit | Stage::Absent | Stage::Ready => write_count(sink, b"end ", 0),
-        Stage::Over(steps) => write_count(sink, b"end ", steps),
-        Stage::Stopped => write_count(sink, b"bound ", MOST_STEPS),
+        Stage::NoInit | Stage::Absent | Stage::Ready => Printed::End { steps: 0 },
+        Stage::Over(steps) => Printed::End { steps },
+        Stage::Stopped => Printed::Bound { steps: MOST_STEPS },
     }
-}
-
-/// Writes a line that ends in a number.
-fn write_number<K: Sink>(sink: &mut K, front: &[u8], number: i128) -> Result<(), WriteFault>
-    requires { length front.now ≤ 100 }
-    ensures ok { OnOk result (K.written sink.new ≡ more (K.written sink.old) (line_of_number front.now number)) }
-    ensures err { OnErr result (IsCut (K.written sink.new) (more (K.written sink.old) (line_of_number front.now number))) }
-    ensures cause { HasCause (K.faults sink.old) (K.faults sink.new) result }
-{
-    let line = number_line(front, number);
-    let written = write_all(sink, line.bytes());
-    written
-}
-
-/// Writes a line that ends in a count.
-pub fn write_count<K: Sink>(sink: &mut K, front: &[u8], count: usize) -> Result<(), WriteFault>
-    requires { length front.now ≤ 100 }
-    ensures ok { OnOk result (K.written sink.new ≡ more (K.written sink.old) (line_of_number front.now (pos count))) }
-    ensures err { OnErr result (IsCut (K.written sink.new) (more (K.written sink.old) (line_of_number front.now (pos count)))) }
-    ensures cause { HasCause (K.faults sink.old) (K.faults sink.new) result }
-{
-    write_number(sink, front, count as i128)
-}
-
-/// A line that ends in a number, with its line feed.
-fn number_line(front: &[u8], number: i128) -> Line
-    requires { length front.now ≤ 100 }
-    ensures { result ≡ line_of_number front.now number }
-{
-    let mut line = Line::new();
-    line.put_text(front);
-    line.put_dec(number);
-    line.put_text(b"\n");
-    line
 }

@@ -91,19 +91,19 @@ pub not_before : {X : Type 0} (p : X → Bool) (xs ys : List X) → position p (
 not_before p xs ys h = none_before p xs ys (position_is p (xs ++ ys) (length xs) h)
 
 -- ---- declarations by name
-abbrev Decl : Type 0
+abbrev pub Decl : Type 0
 Decl = List ℕ × TypeName
 
-abbrev first : Decl → List ℕ
+abbrev pub first : Decl → List ℕ
 first d = d.0
 
-abbrev member_of : Decl → MemberName
+abbrev pub member_of : Decl → MemberName
 member_of d = record { part = None; name = d.0 }
 
-abbrev decl_role : Types → Decl → Role
+abbrev pub decl_role : Types → Decl → Role
 decl_role types d = declared_role types false false d.1
 
-abbrev parameter_decl : Param → Decl
+abbrev pub parameter_decl : Param → Decl
 parameter_decl p = (p.name, p.type_name)
 
 abbrev local_decl : Local → Decl
@@ -113,7 +113,7 @@ abbrev with_decls : Types → List Decl → Siblings → Siblings
 with_decls types [] s = s
 with_decls types (d ∷ ds) s = with_decls types ds (with_sibling s (member_of d) (decl_role types d))
 
-with_parameters_is : (types : Types) (ps : List Param) (s : Siblings) → with_parameters types ps s ≡ with_decls types (map parameter_decl ps) s
+pub with_parameters_is : (types : Types) (ps : List Param) (s : Siblings) → with_parameters types ps s ≡ with_decls types (map parameter_decl ps) s
 with_parameters_is types [] s = refl
 with_parameters_is types (p ∷ ps) s = with_parameters_is types ps (with_sibling s (member_of (parameter_decl p)) (decl_role types (parameter_decl p)))
 
@@ -126,9 +126,9 @@ with_both types [] es s = refl
 with_both types (d ∷ ds) es s = with_both types ds es (with_sibling s (member_of d) (decl_role types d))
 
 -- siblings that are these declarations, one by one
-record Aligned (types : Types) (ds : List Decl) (s : Siblings) : Type 0 where
-  names : s.names ≡ map member_of ds
-  roles : s.roles ≡ map (decl_role types) ds
+pub record Aligned (types : Types) (ds : List Decl) (s : Siblings) : Type 0 where
+  pub names : s.names ≡ map member_of ds
+  pub roles : s.roles ≡ map (decl_role types) ds
 
 pub joined : (s : Siblings) (m : MemberName) (r : Role) → is_new_member s.names m ≡ true → with_sibling s m r ≡ record { names = s.names ++ m ∷ []; roles = s.roles ++ r ∷ [] }
 unfolding with_sibling with_member
@@ -163,7 +163,7 @@ is_new names m h k = by (list_any (is_member m.part m.name) names) h
     by true h = absurd cc
     by false h = lt-ltb (length names) (2 ^ 32 - 1) k
 
-aligned_push : (types : Types) (ds : List Decl) (d : Decl) (s : Siblings) → Aligned types ds s → list_any (bytes_eq d.0) (map first ds) ≡ false → length ds ≤ 128
+aligned_push : (types : Types) (ds : List Decl) (d : Decl) (s : Siblings) → Aligned types ds s → list_any (bytes_eq d.0) (map first ds) ≡ false → length ds ≤ 1000
     → Aligned types (ds ++ d ∷ []) (with_sibling s (member_of d) (decl_role types d))
 aligned_push types ds d s a h few =
     let m = member_of d in
@@ -177,12 +177,12 @@ aligned_push types ds d s a h few =
     subst (Aligned types (ds ++ d ∷ [])) (sym (joined s m r (is_new s.names m none (omega arith)))) both
 
 -- each name is the first that is spelled so
-abbrev AreFirst : List (List ℕ) → ℕ → List Decl → Type 0
+abbrev pub AreFirst : List (List ℕ) → ℕ → List Decl → Type 0
 AreFirst names i [] = Unit {0}
 AreFirst names i (d ∷ ds) = (position (bytes_eq d.0) names ≡ Some i) × AreFirst names (i + 1) ds
 
-aligned_all : (types : Types) (names extra : List (List ℕ)) (ds before : List Decl) (s : Siblings) → Aligned types before s → names ≡ map first before ++ (map first ds ++ extra)
-    → AreFirst names (length before) ds → length before + length ds ≤ 128 → Aligned types (before ++ ds) (with_decls types ds s)
+pub aligned_all : (types : Types) (names extra : List (List ℕ)) (ds before : List Decl) (s : Siblings) → Aligned types before s → names ≡ map first before ++ (map first ds ++ extra)
+    → AreFirst names (length before) ds → length before + length ds ≤ 1000 → Aligned types (before ++ ds) (with_decls types ds s)
 aligned_all types names extra [] before s a e are few = subst (λ l. Aligned types l s) (sym (append-nil before)) a
 aligned_all types names extra (d ∷ ds) before s a e are few =
     let size : length (map first before) ≡ length before = map_length first before in
@@ -199,7 +199,7 @@ abbrev Stand : Locals → List (Option Shape) → ℕ → List Decl → Type 0
 Stand locals shapes i [] = Unit {0}
 Stand locals shapes i (d ∷ ds) = (declaration_stands locals shapes i d.0 ≡ true) × Stand locals shapes (i + 1) ds
 
-if_none : (b : Bool) (o : Option ℕ) (line : ℕ) → (if b then o else Some line) ≡ None → (b ≡ true) × (o ≡ None)
+pub if_none : (b : Bool) (o : Option ℕ) (line : ℕ) → (if b then o else Some line) ≡ None → (b ≡ true) × (o ≡ None)
 if_none true o line h = (refl, h)
 if_none false o line h = absurd cc
 
@@ -217,7 +217,7 @@ both_none : (o q : Option ℕ) → or_else o q ≡ None → (o ≡ None) × (q �
 both_none None q h = (refl, h)
 both_none (Some n) q h = absurd cc
 
-same_is : (o : Option ℕ) (i : ℕ) → same_place o (Some i) ≡ true → o ≡ Some i
+pub same_is : (o : Option ℕ) (i : ℕ) → same_place o (Some i) ≡ true → o ≡ Some i
 same_is None i h = absurd cc
 same_is (Some j) i h = ap (λ n. Some n) (eqb-true j i h)
 
@@ -271,10 +271,10 @@ there_is None h = absurd cc
 there_is (Some x) h = (x, refl)
 
 -- the shape of a declaration that stands, in a list of shapes where each is that of its declaration
-abbrev AreNamed : Table → List Decl → List (Option Shape) → Type 0
+abbrev pub AreNamed : Table → List Decl → List (Option Shape) → Type 0
 AreNamed t ds shapes = (k : ℕ) (d : Decl) → slice_get ds k ≡ Some d → (plain : Unannotated) × (siblings : Siblings) × (slice_get shapes k ≡ Some (named_shape t plain siblings d.0 d.1))
 
-integer_at_role : (t : Table) (ds : List Decl) (s : Siblings) (shapes : List (Option Shape)) → Aligned t.types ds s → AreNamed t ds shapes
+pub integer_at_role : (t : Table) (ds : List Decl) (s : Siblings) (shapes : List (Option Shape)) → Aligned t.types ds s → AreNamed t ds shapes
     → ((k : ℕ) (d : Decl) → slice_get ds k ≡ Some d → is_declared shapes k ≡ true) → (k : ℕ) → role_of s k ≡ Some role.Integer → is_integer (shape_at shapes k) ≡ true
 integer_at_role t ds s shapes a named there k h =
     let e : option_map (decl_role t.types) (slice_get ds k) ≡ Some role.Integer = sym (slice_get-map (decl_role t.types) ds k) ∙ (ap (λ rs. slice_get rs k) (sym a.roles) ∙ h) in
@@ -320,7 +320,7 @@ module _ (t : Table) (sizes : (key : Element) → (key_extent t.extents key).byt
       let b = some_then (typed_shape t.types t.extents plain siblings a.0 type_name) value_shape x a.2 in
       value_roled siblings b.0 x b.2 (shape_roled t.types t.extents plain siblings a.0 type_name b.0 sizes r b.1)
 
-  named_is : (plain : Unannotated) (siblings : Siblings) (shapes : List (Option Shape)) (name : List ℕ) (type_name : TypeName)
+  pub named_is : (plain : Unannotated) (siblings : Siblings) (shapes : List (Option Shape)) (name : List ℕ) (type_name : TypeName)
       → ((k : ℕ) → role_of siblings k ≡ Some role.Integer → is_integer (shape_at shapes k) ≡ true) → IsReadable (type_words type_name)
       → IsShape shapes (named_shape t plain siblings name type_name)
   named_is plain siblings shapes name type_name integers r = by (named_shape t plain siblings name type_name) refl
@@ -330,7 +330,7 @@ module _ (t : Table) (sizes : (key : Element) → (key_extent t.extents key).byt
       by (Some x) h = roled_shape_is siblings shapes integers x (named_roled plain siblings name type_name x r h)
 
 -- ---- the slots of a function
-mapped_named : {X : Type 0} (t : Table) (plain : Unannotated) (siblings : Siblings) (decl : X → Decl) (xs : List X) (k : ℕ) (d : Decl) → slice_get (map decl xs) k ≡ Some d
+pub mapped_named : {X : Type 0} (t : Table) (plain : Unannotated) (siblings : Siblings) (decl : X → Decl) (xs : List X) (k : ℕ) (d : Decl) → slice_get (map decl xs) k ≡ Some d
     → slice_get (map (λ x. named_shape t plain siblings (decl x).0 (decl x).1) xs) k ≡ Some (named_shape t plain siblings d.0 d.1)
 mapped_named t plain siblings decl xs k d h =
     let m = some_map (slice_get xs k) decl d (sym (slice_get-map decl xs k) ∙ h) in
@@ -472,19 +472,6 @@ module _ (t : Table) (sizes : (key : Element) → (key_extent t.extents key).byt
   param_integers : (k : ℕ) → role_of param_siblings k ≡ Some role.Integer → is_integer (shape_at final k) ≡ true
   param_integers =
       integer_at_role t pd param_siblings final params_aligned (λ k d h. (Safe, param_siblings, param_in k d h)) (λ k d h. all_there k d (slice_front pd ld k d h))
-
-  own_integers : (k : ℕ) → role_of param_siblings k ≡ Some role.Integer → is_integer (shape_at (parameter_shapes t ps) k) ≡ true
-  own_integers =
-      integer_at_role t pd param_siblings (parameter_shapes t ps) params_aligned (λ k d h. (Safe, param_siblings, param_at k d h))
-      (λ k d h. ap (λ q. is_some (option_flatten q)) (param_at k d h) ∙ (sym (ap (λ q. is_some (option_flatten q)) (param_in k d h)) ∙ all_there k d (slice_front pd ld k d h)))
-
-  -- the parameters, as calls see them
-  pub parameters_are : AreShapes (parameter_shapes t ps)
-  unfolding parameter_shapes
-  parameters_are =
-      All-map (IsShape (parameter_shapes t ps)) (parameter_shape t param_siblings) ps
-      (All-weaker (λ (p : Param). IsReadable (type_words p.type_name)) (λ p. IsShape (parameter_shapes t ps) (parameter_shape t param_siblings p))
-      (λ p r. named_is t sizes Safe param_siblings (parameter_shapes t ps) p.name p.type_name own_integers r) ps words.params)
 
   -- the slots
   pub slots_are : AreShapes final

@@ -14,6 +14,7 @@ pub mod StatementRules
 pub mod Derivations
 pub mod DeclaredSides
 pub mod DeclaredSlots
+pub mod DeclaredHeads
 pub mod DeclaredStructs
 pub mod DeclaredUnits
 pub mod FoundKeys

@@ -35,10 +35,10 @@ at_line_within ctx line b is = record { table = is.table; slots = is.slots }
 
 module _ (u : TextUnit) (t : Table) (f : Function) (r : Returned) (is : IsFunctionOf u t f r) where
   within : IsContext (context_of t f)
-  within = context_within u t f is.short is.table is.function (is.stand f is.function)
+  within = context_within u t f is.short is.table is.function is.stands
 
   at_home : IsHome (home_of u t r)
-  at_home = home_within u t f r is.short is.table is.stand is.function is.result
+  at_home = home_within u t f r is.short is.table is.function is.result
 
   pub statement_refused : (s : Simple) (b : Numbered) (e : Fault) → HasShortParts s.action → simple (context_of t f) (home_of u t r) s b ≡ Err e
       → act (statement_context (context_of t f) s.line b) (home_of u t r) s.action [] ≡ None

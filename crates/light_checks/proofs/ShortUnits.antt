@@ -39,7 +39,7 @@ use Rattle.deputy_types.specs.Extents.{key_extent}
 use Rattle.deputy_types.specs.Found.{first_found, found_items, struct_names}
 use Rattle.deputy_rules.specs.Functions.{text_of, context_of}
 use Rattle.deputy_types.specs.UnitLayout.{functions_of}
-use Rattle.deputy_rules.specs.Heads.{signature_of, parameter_shapes, value_shape, value_result, result_by, result_of}
+use Rattle.deputy_rules.specs.Heads.{signature_of, parameter_shapes, seen_shapes, value_shape, value_result, result_by, result_of}
 use Rattle.deputy_types.specs.Options.{and_then}
 use Rattle.deputy_types.specs.Siblings.{no_siblings, role_of}
 use Rattle.deputy_types.specs.Table.{Table}
@@ -49,7 +49,8 @@ use Rattle.deputy_types.proofs.Inversions.{some_then, some_map, ok_then}
 use Rattle.light_checks.specs.Within.{is_integer, shape_at, AreShapes, IsTable, IsContext, IsResult, IsHome}
 use Rattle.light_checks.specs.Words.{IsSmallWord, IsReadable}
 use Rattle.light_checks.proofs.DeclaredSides.{IsRoledShape, shape_roled}
-use Rattle.light_checks.proofs.DeclaredSlots.{HasReadable, slots_are, parameters_are, roled_shape_is, value_roled}
+use Rattle.light_checks.proofs.DeclaredSlots.{HasReadable, slots_are, roled_shape_is, value_roled}
+use Rattle.light_checks.proofs.DeclaredHeads.{seen_are}
 use Rattle.light_checks.proofs.DeclaredStructs.{AreReadableArms, IsReadableField, AreReadableFields, members_in, count_members}
 use Rattle.light_checks.proofs.DeclaredUnits.{ok_same, nothing_fine, no_structs_fine, IsReadableItem, AreReadableItems, items_fine, image_within, structs_fine, table_is}
 use Rattle.light_checks.proofs.Ensuring.{given}
@@ -201,6 +202,22 @@ locals_readable f s =
     let front = (short_both ls (ss ++ a_sign sign.BraceClose) lp sp inside).0 in
     All-weaker (λ l. IsShort (local_words l) (local_words l ∷ [])) HasReadableLocal local_readable f.locals (short_each local_words (λ l. local_words l ∷ []) f.locals front)
 
+-- each parameter takes a word
+more_params_few : (ps : List Param) → length ps ≤ length (more_params_words ps)
+more_params_few [] = omega arith
+more_params_few (p ∷ ps) = omega (arith, length-append (a_sign sign.Comma ++ param_words p) (more_params_words ps), length-append (a_sign sign.Comma) (param_words p), more_params_few ps)
+
+params_few : (ps : List Param) → length ps ≤ length (params_words ps)
+params_few [] = omega arith
+params_few (p ∷ ps) = omega (arith, length-append (param_words p) (more_params_words ps), length-append (type_words p.type_name) (a_name p.name), more_params_few ps)
+
+head_few : (h : Head) → IsReadable (head_words h) → length h.params ≤ 1000
+head_few h r =
+    let inner = written_void_words h.written_void ++ params_words h.params in
+    let behind = a_name h.name ++ in_parentheses inner in
+    omega (arith, r.words, length-append (result_words h.result) (stars_words h.stars ++ behind), length-append (stars_words h.stars) behind, length-append (a_name h.name) (in_parentheses inner),
+    length-append (a_sign sign.ParenOpen) (inner ++ a_sign sign.ParenClose), length-append inner (a_sign sign.ParenClose), length-append (written_void_words h.written_void) (params_words h.params), params_few h.params)
+
 function_readable : (f : Function) → IsShortFunction f → HasReadable f
 function_readable f s = record { params = head_params f.head (head_readable f s); locals = locals_readable f s }
 
@@ -247,14 +264,13 @@ functions_all P (item.Function f ∷ xs) each =
 functions_all P (item.Prototype h ∷ xs) each = functions_all P xs (λ g c. each g (behind (item.Function g) (item.Prototype h) xs c))
 
 -- where the bodies of a text stand
-pub home_within : (u : TextUnit) (t : Table) (f : Function) (r : Returned) → IsShortUnit u → layout u ≡ Ok t → ((g : Function) → Contains u.items (item.Function g) → Stands t g)
-    → Contains u.items (item.Function f) → result_of t f.head ≡ Some r → IsHome (record { functions = (text_of t u.items).functions; result = r })
+pub home_within : (u : TextUnit) (t : Table) (f : Function) (r : Returned) → IsShortUnit u → layout u ≡ Ok t → Contains u.items (item.Function f) → result_of t f.head ≡ Some r → IsHome (record { functions = (text_of t u.items).functions; result = r })
 unfolding text_of signature_of result_of
-home_within u t f r short h stand in' found =
+home_within u t f r short h in' found =
     let table = table_within u t short h in
     record {
       functions = All-map (λ (s : Signature). AreShapes s.params) (signature_of t) (functions_of u.items)
-          (functions_all (λ (g : Function). AreShapes (parameter_shapes t g.head.params)) u.items
-          (λ g c. parameters_are t table.sizes g (stand g c) (function_readable g (function_short u g short c))));
+          (functions_all (λ (g : Function). AreShapes (seen_shapes (parameter_shapes t g.head.params) g.head)) u.items
+          (λ g c. let r = head_readable g (function_short u g short c) in seen_are t table.sizes g.head (head_params g.head r) (head_few g.head r)));
       result = result_by_is t f.head.result f.head.stars r table.sizes (head_result f.head (head_readable f (function_short u f short in'))) found;
     }

@@ -1,11 +1,11 @@
--- A short unit whose declarations stand is refused only for its heads, its prototypes, or what no rule derives.
+-- A short unit is refused only for its heads, its declarations, too many slots, its prototypes, or what no rule derives.
 use Rattle.std.proofs.Common.{◌≡◌, ℕ, Bool, true, false, not, List, [], ◌∷◌, ◌++◌, length, Option, Some, None, Result, Ok, Err, if◌then◌else◌, Contains, refl, sym, ap, ◌∙◌, arith}
-use Rattle.std.proofs.lemmas.Bool.{true≢false}
 use Rattle.c_tree.specs.declared.items.Function.{Function}
 use Rattle.c_tree.specs.declared.items.Item.{Item}
 use Rattle.c_tree.specs.declared.items.Item.TheVariants as item
 use Rattle.c_tree.specs.declared.items.Unit.{Unit as TextUnit}
 use Rattle.c_tree.specs.declared.limits.LimitKind.TheVariants.{Locals}
+use Rattle.c_tree.specs.ShortUnit.{IsShortUnit}
 use Rattle.c_tree.specs.Slots.{locals_of}
 use Rattle.checked_tree.specs.declared.units.CheckedFn.{CheckedFn}
 use Rattle.deputy_rules.specs.declared.signature.Returned.{Returned}
@@ -13,7 +13,8 @@ use Rattle.deputy_rules.specs.Checking.{Fault, NoRule, Limit}
 use Rattle.deputy_rules.specs.Functions.{text_of, context_of, check_declared, check_result, check_function, wrong_prototype, behind_prototype, behind_function, check_items, checked_with, checked}
 use Rattle.deputy_rules.specs.Heads.{Text, function_stands, is_over, result_of, slot_shapes, wrong_declaration}
 use Rattle.deputy_types.specs.Table.{Table}
-use Rattle.light_checks.specs.Refused.{IsStanding, IsRefused, head, no_result, prototype, unruled}
+use Rattle.deputy_types.specs.UnitLayout.{layout}
+use Rattle.light_checks.specs.Refused.{IsRefused, head, too_many, no_result, declared, prototype, unruled}
 use Rattle.light_checks.specs.ShortUnits.{IsFunctionOf}
 use Rattle.light_checks.proofs.Bodies.{fault_same, function_tells}
 use Rattle.light_checks.proofs.ShortUnits.{behind}
@@ -21,24 +22,26 @@ use Rattle.light_checks.proofs.ShortUnits.{behind}
 front : (x : Item) (xs : List Item) → Contains (x ∷ xs) x
 front x xs = (0, omega arith, refl)
 
-module _ (u : TextUnit) (t : Table) (is : IsStanding u t) where
+module _ (u : TextUnit) (t : Table) (short : IsShortUnit u) (table : layout u ≡ Ok t) where
   abbrev text : Text
   text = text_of t u.items
 
-  function_of : (f : Function) (r : Returned) → Contains u.items (item.Function f) → result_of t f.head ≡ Some r → IsFunctionOf u t f r
-  function_of f r in' found = record { short = is.short; table = is.table; stand = is.stand; function = in'; result = found }
-
-  declared_refused : (f : Function) (r : Returned) (e : Fault) → Contains u.items (item.Function f) → result_of t f.head ≡ Some r
+  declared_refused : (f : Function) (r : Returned) (e : Fault) → Contains u.items (item.Function f) → is_over f ≡ false → result_of t f.head ≡ Some r
       → check_declared text f r (context_of t f) (wrong_declaration (locals_of f) (slot_shapes t f) f) ≡ Err e → IsRefused u t e
-  declared_refused f r e in' found h =
-      unruled f r in' found (function_tells u t f r (function_of f r in' found) e (sym (ap (check_declared text f r (context_of t f)) (is.stand f in').stands) ∙ h))
+  declared_refused f r e in' few found h = by (wrong_declaration (locals_of f) (slot_shapes t f) f) refl h
+    where
+      by : (o : Option ℕ) → wrong_declaration (locals_of f) (slot_shapes t f) f ≡ o → check_declared text f r (context_of t f) o ≡ Err e → IsRefused u t e
+      by None k h =
+          let is : IsFunctionOf u t f r = record { short = short; table = table; function = in'; stands = record { few = few; stands = k }; result = found } in
+          unruled f r in' found (function_tells u t f r is e h)
+      by (Some line) k h = declared f line in' k (sym (fault_same (NoRule line) e h))
 
-  result_refused : (f : Function) (e : Fault) → Contains u.items (item.Function f) → check_result text f (result_of t f.head) (context_of t f) ≡ Err e → IsRefused u t e
-  result_refused f e in' h = by (result_of t f.head) refl h
+  result_refused : (f : Function) (e : Fault) → Contains u.items (item.Function f) → is_over f ≡ false → check_result text f (result_of t f.head) (context_of t f) ≡ Err e → IsRefused u t e
+  result_refused f e in' few h = by (result_of t f.head) refl h
     where
       by : (o : Option Returned) → result_of t f.head ≡ o → check_result text f o (context_of t f) ≡ Err e → IsRefused u t e
       by None found h = no_result f in' found (sym (fault_same (NoRule f.head.line) e h))
-      by (Some r) found h = declared_refused f r e in' found h
+      by (Some r) found h = declared_refused f r e in' few found h
 
   function_refused : (f : Function) (k : ℕ) (e : Fault) → Contains u.items (item.Function f) → check_function text k f ≡ Err e → IsRefused u t e
   unfolding check_function text_of
@@ -47,8 +50,8 @@ module _ (u : TextUnit) (t : Table) (is : IsStanding u t) where
       by : (a : Bool) → function_stands text k f.head ≡ a → (b : Bool) → is_over f ≡ b
           → (if not a then Err (NoRule f.head.line) else (if b then Err (Limit f.head.line Locals) else check_result text f (result_of t f.head) (context_of t f))) ≡ Err e → IsRefused u t e
       by false stands b over h = head f k in' stands (sym (fault_same (NoRule f.head.line) e h))
-      by true stands true over h = absurd (true≢false (sym over ∙ (is.stand f in').few))
-      by true stands false over h = result_refused f e in' h
+      by true stands true over h = too_many f in' over (sym (fault_same (Limit f.head.line Locals) e h))
+      by true stands false over h = result_refused f e in' over h
 
   items_refused : (xs : List Item) (before : List CheckedFn) (e : Fault) → ((x : Item) → Contains xs x → Contains u.items x) → check_items text xs before ≡ Err e → IsRefused u t e
   items_refused [] before e in' h = absurd cc

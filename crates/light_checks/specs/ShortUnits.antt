@@ -12,12 +12,12 @@ use Rattle.deputy_types.specs.Table.{Table}
 use Rattle.deputy_types.specs.UnitLayout.{layout}
 use Rattle.light_checks.specs.Standing.{Stands}
 
--- a short unit with this table, the declarations of each of whose functions stand, and one of its functions with the result that it declares
+-- a short unit with this table, and one of its functions, whose declarations stand, with the result that it declares
 pub record IsFunctionOf (u : TextUnit) (t : Table) (f : Function) (r : Returned) : Type 0 where
   pub short : IsShortUnit u
   pub table : layout u ≡ Ok t
-  pub stand : (g : Function) → Contains u.items (item.Function g) → Stands t g
   pub function : Contains u.items (item.Function f)
+  pub stands : Stands t f
   pub result : result_of t f.head ≡ Some r
 
 -- where a body of the unit with this result stands

@@ -21,7 +21,7 @@ ghost use Rattle.deputy_rules.specs.Statements.{Home, act, condition, controllin
 ghost use Rattle.deputy_types.specs.Table.{Table};
 ghost use Rattle.deputy_types.specs.UnitLayout.{layout};
 ghost use Rattle.light_checks.specs.Lightness.{IsLightCheck};
-ghost use Rattle.light_checks.specs.Refused.{IsRefused, IsStanding};
+ghost use Rattle.light_checks.specs.Refused.{IsRefused};
 ghost use Rattle.light_checks.specs.ShortActions.{HasShortParts};
 ghost use Rattle.light_checks.specs.ShortUnits.{IsFunctionOf, home_of};
 ghost use Rattle.light_checks.specs.Unruled.{Tells, UnruledIn};
@@ -52,7 +52,7 @@ pub fn a_short_unit_has_a_table_within()
     ensures { (u : TextUnit) (t : Table) → IsShortUnit u → layout u ≡ Ok t → IsTable t }
 {}
 
-/// In a short unit whose functions have declarations that stand, a simple statement is refused at its line only where no rule derives it.
+/// In a function of a short unit whose declarations stand, a simple statement is refused at its line only where no rule derives it.
 pub fn a_refused_statement_has_no_rule()
     ensures { (u : TextUnit) (t : Table) (f : Function) (r : Returned) (s : Simple) (before : Numbered) (e : Fault) → IsFunctionOf u t f r → HasShortParts s.action → simple (context_of t f) (home_of u t r) s before ≡ Err e → act (statement_context (context_of t f) s.line before) (home_of u t r) s.action [] ≡ None }
 {}
@@ -67,8 +67,8 @@ pub fn a_refused_body_has_a_line_without_rule()
     ensures { (u : TextUnit) (t : Table) (f : Function) (r : Returned) (e : Fault) → IsFunctionOf u t f r → check_statements (text_of t u.items) f r (context_of t f) ≡ Err e → Tells (UnruledIn (context_of t f) (home_of u t r) f.body) e }
 {}
 
-/// A short unit whose declarations stand is refused only for a function's head or result, for a prototype, or on the line of a simple statement or a condition that
-/// no rule derives.
+/// A short unit is refused only for a function's head, number of slots, result, parameter or local, for a prototype, or on the line of a simple statement or a condition
+/// that no rule derives: never for the weight of a check.
 pub fn a_refused_unit_has_its_reason()
-    ensures { (u : TextUnit) (t : Table) (e : Fault) → IsStanding u t → checked t u ≡ Err e → IsRefused u t e }
+    ensures { (u : TextUnit) (t : Table) (e : Fault) → IsShortUnit u → layout u ≡ Ok t → checked t u ≡ Err e → IsRefused u t e }
 {}

@@ -20,7 +20,7 @@ use Rattle.deputy_rules.specs.declared.signature.Returned.{Returned}
 use Rattle.deputy_rules.specs.declared.signature.Returned.TheVariants as returned
 use Rattle.deputy_rules.specs.Checking.{Fault, NoRule, Limit, in_turn}
 use Rattle.deputy_rules.specs.Context.{Context}
-use Rattle.deputy_rules.specs.Heads.{Text, signature_of, parameter_shapes, slot_shapes, result_of, head_stands, function_stands, is_over, wrong_declaration, wrong_in_prototype}
+use Rattle.deputy_rules.specs.Heads.{Text, signature_of, parameter_shapes, slot_shapes, result_of, head_stands, function_stands, is_over, wrong_declaration, wrong_in_head}
 use Rattle.deputy_rules.specs.Numbering.{Numbered}
 use Rattle.deputy_rules.specs.Statements.{check_statement}
 use Rattle.deputy_types.specs.Table.{Table}
@@ -100,7 +100,7 @@ check_function text k f =
 
 -- the line of what does not stand in a prototype
 unfoldable pub wrong_prototype : Text → Head → Option ℕ
-wrong_prototype text h = if head_stands text h then wrong_in_prototype (parameter_shapes text.table h.params) h else Some h.line
+wrong_prototype text h = if head_stands text h then wrong_in_head (parameter_shapes text.table h.params) h else Some h.line
 
 -- the items in turn, behind the functions that are done
 abbrev pub behind_prototype : Option ℕ → Result (List CheckedFn) Fault → Result (List CheckedFn) Fault

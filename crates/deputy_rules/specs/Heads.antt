@@ -97,9 +97,35 @@ result_by t (result.Base b) stars = base_result t b stars
 unfoldable pub result_of : Table → Head → Option Returned
 result_of t h = result_by t h.result h.stars
 
+-- the i-th shape is there
+abbrev pub is_declared : List (Option Shape) → ℕ → Bool
+is_declared shapes i = is_some (option_flatten (slice_get shapes i))
+
+-- the i-th parameter of a head stands: it is the first that has its name, and its shape is derived
+unfoldable pub head_parameter_stands : List Param → List (Option Shape) → ℕ → List ℕ → Bool
+head_parameter_stands params shapes i name = same_place (parameter_place params name) (Some i) && is_declared shapes i
+
+-- the line of the first parameter of a head, from the i-th on, that does not stand
+abbrev pub wrong_head_parameter : List Param → List (Option Shape) → ℕ → List Param → Option ℕ
+wrong_head_parameter params shapes i [] = None
+wrong_head_parameter params shapes i (p ∷ ps) =
+    if head_parameter_stands params shapes i p.name then wrong_head_parameter params shapes (i + 1) ps else Some p.line
+
+unfoldable pub wrong_in_head : List (Option Shape) → Head → Option ℕ
+wrong_in_head shapes h = wrong_head_parameter h.params shapes 0 h.params
+
+-- none of these shapes
+abbrev pub no_shapes : List (Option Shape) → List (Option Shape)
+no_shapes [] = []
+no_shapes (s ∷ shapes) = None ∷ no_shapes shapes
+
+-- what calls see of the parameters: their shapes where each stands. Where one does not, they see none, so that no call is derived
+unfoldable pub seen_shapes : List (Option Shape) → Head → List (Option Shape)
+seen_shapes shapes h = if is_none (wrong_in_head shapes h) then shapes else no_shapes shapes
+
 -- what calls see of a function
 unfoldable pub signature_of : Table → Function → Signature
-signature_of t f = record { name = f.head.name; params = parameter_shapes t f.head.params; result = result_of t f.head }
+signature_of t f = record { name = f.head.name; params = seen_shapes (parameter_shapes t f.head.params) f.head; result = result_of t f.head }
 
 -- a text, as its functions see it: its types, its items, and its functions with bodies
 pub record Text : Type 0 where
@@ -144,10 +170,6 @@ function_stands text k h = head_stands text h && same_place (function_number tex
 unfoldable pub is_over : Function → Bool
 is_over f = nat_lt 128 (length (slots f))
 
--- the i-th shape is there
-abbrev pub is_declared : List (Option Shape) → ℕ → Bool
-is_declared shapes i = is_some (option_flatten (slice_get shapes i))
-
 -- the i-th parameter or local stands: it is the first that has its name, and its shape is derived
 unfoldable pub declaration_stands : Locals → List (Option Shape) → ℕ → List ℕ → Bool
 declaration_stands locals shapes i name = same_place (slot_named locals name) (Some i) && is_declared shapes i
@@ -170,15 +192,3 @@ or_else None other = other
 -- the line of the first parameter or local of a function that does not stand
 unfoldable pub wrong_declaration : Locals → List (Option Shape) → Function → Option ℕ
 wrong_declaration locals shapes f = or_else (wrong_parameter locals shapes 0 f.head.params) (wrong_local locals shapes (length f.head.params) f.locals)
-
--- a parameter of a prototype stands likewise
-unfoldable pub prototype_parameter_stands : List Param → List (Option Shape) → ℕ → List ℕ → Bool
-prototype_parameter_stands params shapes i name = same_place (parameter_place params name) (Some i) && is_declared shapes i
-
-abbrev pub wrong_prototype_parameter : List Param → List (Option Shape) → ℕ → List Param → Option ℕ
-wrong_prototype_parameter params shapes i [] = None
-wrong_prototype_parameter params shapes i (p ∷ ps) =
-    if prototype_parameter_stands params shapes i p.name then wrong_prototype_parameter params shapes (i + 1) ps else Some p.line
-
-unfoldable pub wrong_in_prototype : List (Option Shape) → Head → Option ℕ
-wrong_in_prototype shapes h = wrong_prototype_parameter h.params shapes 0 h.params

@@ -16,7 +16,7 @@ pub enum Returned {
 #[derive(Debug, Drop)]
 pub struct Signature {
     pub name: Name,
-    /// The shapes of its parameters, by place; none where no rule derives the type.
+    /// The shapes of its parameters, by place. Where one of them does not stand (its name is that of an earlier one, or no rule derives its type), all are none.
     pub params: Items<Option<Shape>>,
     /// Its result; none where no rule derives the type.
     pub result: Option<Returned>,

@@ -23,7 +23,7 @@ use Rattle.deputy_types.specs.declared.laying.Laid.{Laid}
 use Rattle.deputy_types.specs.declared.refusal.TypeRefusal.{TypeRefusal}
 use Rattle.deputy_types.specs.declared.refusal.TypeRefusal.TheVariants as refusal
 use Rattle.deputy_types.specs.Declarations.{with_number, with_term, integer_number, pointer_number, edge_term, bound_end, both_ends, annotated_bounds, pointer_shape, typed_shape, declared_role}
-use Rattle.deputy_types.specs.Extents.{type_extent}
+use Rattle.deputy_types.specs.Extents.{type_extent, arm_extent}
 use Rattle.deputy_types.specs.Found.{with_name}
 use Rattle.deputy_types.specs.Siblings.{is_new_member, with_member, with_sibling}
 use Rattle.deputy_types.specs.StructLayout.{struct_siblings, is_first, element_count, field_shape, within_limits, placed, is_new_field, field_declared, with_plain, tag_number, is_own_tag, tag_holds, arm_tag, arm_shape, with_arm, is_new_union, with_union_of, with_union_arms, with_union_at, with_union, laid_out, head_of_struct, struct_laid}
@@ -82,12 +82,12 @@ pub a_struct : laid the_fields ≡ Ok (record {
     keys = Some (key.Int scalar.U8) ∷ None ∷ Some (key.Int scalar.I32) ∷ Some (key.Int scalar.I16) ∷ Some (key.Int scalar.I32) ∷ Some (key.Nullterm 0) ∷ [];
   };
 })
-unfolding struct_laid head_of_struct struct_siblings laid_out with_plain field_declared is_new_field field_shape element_count placed within_limits is_first with_union with_union_at with_union_arms with_union_of is_new_union with_arm arm_shape arm_tag tag_holds tag_number is_own_tag is_of typed_shape pointer_shape annotated_bounds both_ends bound_end edge_term with_number with_term integer_number pointer_number declared_role type_extent base_key term_constant next_sum pointer_key star_key type_key pointed_key with_name with_sibling with_member is_new_member
+unfolding struct_laid head_of_struct struct_siblings laid_out with_plain field_declared is_new_field field_shape element_count placed within_limits is_first with_union with_union_at with_union_arms with_union_of is_new_union with_arm arm_shape arm_tag tag_holds tag_number is_own_tag is_of typed_shape pointer_shape annotated_bounds both_ends bound_end edge_term with_number with_term integer_number pointer_number declared_role type_extent arm_extent base_key term_constant next_sum pointer_key star_key type_key pointed_key with_name with_sibling with_member is_new_member
 a_struct = refl
 
 -- a name that is taken: `char k; int k;`
 a_name_twice : laid (declared 2 (plain base.Char) 107 None ∷ declared 3 (plain base.Int) 107 None ∷ []) ≡ Err (refusal.NoDecl 3)
-unfolding struct_laid head_of_struct struct_siblings with_plain field_declared is_new_field field_shape element_count placed within_limits is_first typed_shape declared_role type_extent base_key pointed_key with_sibling with_member is_new_member
+unfolding struct_laid head_of_struct struct_siblings with_plain field_declared is_new_field field_shape element_count placed within_limits is_first typed_shape declared_role type_extent arm_extent base_key pointed_key with_sibling with_member is_new_member
 a_name_twice = refl
 
 -- text of integers: `int *nullterm p;`
@@ -102,7 +102,7 @@ its_own_bound = refl
 
 -- an array of more than 65,536 bytes: `int a[16385];`
 too_many_bytes : laid (declared 2 (plain base.Int) 97 (Some (number 16385)) ∷ []) ≡ Err (refusal.Limit 2 limit.Size)
-unfolding struct_laid head_of_struct struct_siblings with_plain field_declared is_new_field field_shape element_count placed within_limits is_first typed_shape declared_role type_extent base_key pointed_key with_sibling with_member is_new_member
+unfolding struct_laid head_of_struct struct_siblings with_plain field_declared is_new_field field_shape element_count placed within_limits is_first typed_shape declared_role type_extent arm_extent base_key pointed_key with_sibling with_member is_new_member
 too_many_bytes = refl
 
 -- a struct in itself: `struct s s;`

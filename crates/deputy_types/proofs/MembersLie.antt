@@ -28,12 +28,12 @@ use Rattle.deputy_types.specs.declared.sibling.Unannotated.TheVariants as unanno
 use Rattle.deputy_types.specs.declared.siblings.Siblings.{Siblings}
 use Rattle.deputy_types.specs.declared.types.Types.{Types}
 use Rattle.deputy_types.specs.Declarations.{plain_shape, pointer_shape, shape_behind, star_bounds, typed_shape}
-use Rattle.deputy_types.specs.Extents.{IsExtent, AreExtents, natural, no_extent, key_extent, stars_extent, type_extent, round_up_to, greater}
+use Rattle.deputy_types.specs.Extents.{IsExtent, AreExtents, natural, no_extent, key_extent, own_extent, stars_extent, type_extent, arm_extent, round_up_to, greater}
 use Rattle.deputy_types.specs.Options.{and_then}
 use Rattle.deputy_types.specs.Siblings.{no_siblings}
-use Rattle.deputy_types.specs.StructLayout.{Surroundings, or_no_decl, is_first, is_new_field, field_shape, field_declared, is_complete, if_complete, siblings_of, counted, element_count, within_limits, placed, with_plain, arms_extent, const_value, arm_tag, if_number, arm_shape, with_arm_of, with_tagged_arm, with_arm, with_next_arm, with_arms_in_turn, is_new_union, with_union_of, with_union_arms, with_union_at, with_union, with_any_field, empty_struct, with_fields_in_turn, laid_out, head_of_struct, struct_siblings, laid_with, struct_laid}
+use Rattle.deputy_types.specs.StructLayout.{Surroundings, or_no_decl, is_first, is_new_field, field_shape, field_declared, is_complete, if_complete, siblings_of, counted, element_count, within_limits, placed, with_plain, arms_extent, union_extent, const_value, arm_tag, if_number, arm_shape, with_arm_of, with_tagged_arm, with_arm, with_next_arm, with_arms_in_turn, is_new_union, with_union_of, with_union_arms, with_union_at, with_union, with_any_field, empty_struct, with_fields_in_turn, laid_out, head_of_struct, struct_siblings, laid_with, struct_laid}
 use Rattle.deputy_types.proofs.Inversions.{some_then, some_map, if_some, ok_then, ok_declared, if_ok, unless_ok, within_is}
-use Rattle.deputy_types.proofs.TypeExtents.{no_extent_is, type_is_extent, greater_is_extent, arms_is_extent}
+use Rattle.deputy_types.proofs.TypeExtents.{type_is_extent, greater_is_extent, arm_is_extent, arms_is_extent, one_byte_is, union_is_extent}
 use Rattle.deputy_types.specs.StructLaws.{IsMultiple, shape_extent, LiesWithin, is_arm_of, IsBefore, AreInOrder, IsLaidOut}
 use Rattle.deputy_types.specs.UnitLayout.{IsAnswer}
 use Rattle.deputy_types.specs.Types.{base_key, element_number, stars_key, front_stars, last_star, pointed_key}
@@ -159,17 +159,37 @@ record Fits (offset end : ℕ) (x : Extent) : Type 0 where
   aligned : IsMultiple x.align offset
   within : offset + x.bytes ≤ end
 
-arm_extent : (at : Surroundings) (a : Arm) (x : Shape) → arm_shape at a ≡ Some x → type_extent at.types at.extents a.type_name ≡ shape_extent at.extents x
-unfolding arm_shape
-arm_extent at a x h =
+same_number : (y x : Shape) → if_number y ≡ Some x → y ≡ x
+same_number (shape.Int s) x h = cc
+same_number (shape.Pointer elem bounds) x h = cc
+same_number (shape.Struct s) x h = absurd cc
+same_number shape.Address x h = absurd cc
+
+-- a number or a pointer has its own extent
+own_plain : (extents : List Extent) (key : Element) (y x : Shape) → plain_shape key ≡ Some y → if_number y ≡ Some x → own_extent key ≡ shape_extent extents x
+own_plain extents (element.Int s) y x h k = let e : shape.Int s ≡ y = cc in ap (shape_extent extents) (e ∙ same_number y x k)
+own_plain extents (element.Struct n) y x h k =
+    let e : shape.Struct n ≡ y = cc in
+    let f : if_number (shape.Struct n) ≡ Some x = subst (λ (z : Shape). if_number z ≡ Some x) (sym e) k in absurd cc
+own_plain extents (element.Sentinel n) y x h k = absurd cc
+own_plain extents (element.Nullterm n) y x h k = absurd cc
+own_plain extents (element.Count n j) y x h k = absurd cc
+
+own_by_stars : (elements : List Element) (extents : List Extent) (base : Option Element) (stars : List Star) (y x : Shape)
+    → and_then (and_then base (λ key. stars_key elements key (front_stars stars)))
+        (λ key. shape_behind elements extents unannotated.Safe no_siblings 0 key (last_star stars)) ≡ Some y → if_number y ≡ Some x
+    → stars_extent (unwrap_or (option_map own_extent base) no_extent) stars ≡ shape_extent extents x
+own_by_stars elements extents None stars y x h k = absurd cc
+own_by_stars elements extents (Some key) [] y x h k = own_plain extents key y x h k
+own_by_stars elements extents (Some key) (s ∷ ss) y x h k =
+    let a = some_then (stars_key elements key (front_stars (s ∷ ss))) (λ j. shape_behind elements extents unannotated.Safe no_siblings 0 j (last_star (s ∷ ss))) y h in
+    behind_extent elements extents unannotated.Safe no_siblings 0 a.0 (last_star (s ∷ ss)) y (last_there s ss) a.2 ∙ ap (shape_extent extents) (same_number y x k)
+
+arm_has_extent : (at : Surroundings) (a : Arm) (x : Shape) → arm_shape at a ≡ Some x → arm_extent at.types a.type_name ≡ shape_extent at.extents x
+unfolding arm_shape typed_shape pointed_key arm_extent
+arm_has_extent at a x h =
     let t = some_then (typed_shape at.types at.extents unannotated.Safe no_siblings 0 a.type_name) if_number x h in
-    typed_extent at.types at.extents unannotated.Safe no_siblings 0 a.type_name t.0 t.1 ∙ ap (shape_extent at.extents) (same_number t.0 x t.2)
-  where
-    same_number : (y x : Shape) → if_number y ≡ Some x → y ≡ x
-    same_number (shape.Int s) x h = cc
-    same_number (shape.Pointer elem bounds) x h = cc
-    same_number (shape.Struct s) x h = absurd cc
-    same_number shape.Address x h = absurd cc
+    own_by_stars at.types.elements at.extents (base_key at.types.structs a.type_name.base) a.type_name.stars t.0 x t.1 t.2
 
 -- a member that ends before an offset, or is an arm of this union
 abbrev IsReady : List Extent → ℕ → ℕ → Member → Type 0
@@ -185,7 +205,7 @@ ended : (extents : List Extent) (end offset part : ℕ) (m : Member) → end ≤
 ended extents end offset part m h l = inl (omega (arith, l.within))
 
 arm_lies : (at : Surroundings) (unions : List UnionShape) (part start offset end : ℕ) (arms : Arms) (a : Arm) (out : Arms)
-    → Fits offset end (type_extent at.types at.extents a.type_name) → ArmsLie at.extents part offset end arms
+    → Fits offset end (arm_extent at.types a.type_name) → ArmsLie at.extents part offset end arms
     → with_arm at unions part start offset arms a ≡ Some out → ArmsLie at.extents part offset end out
 unfolding with_arm
 arm_lies at unions part start offset end arms a out fits lie h =
@@ -193,7 +213,7 @@ arm_lies at unions part start offset end arms a out fits lie h =
     let c = if_some (is_first at.siblings (length arms.members) (Some part) a.name) (and_then (arm_tag at unions start arms a.tag value) (with_tagged_arm at part offset arms a)) out h in
     let k = some_then (arm_tag at unions start arms a.tag value) (with_tagged_arm at part offset arms a) out c in
     let x = some_map (arm_shape at a) (with_arm_of part offset arms value k.0) out k.2 in
-    let same : type_extent at.types at.extents a.type_name ≡ shape_extent at.extents x.0 = arm_extent at a x.0 x.1 in
+    let same : arm_extent at.types a.type_name ≡ shape_extent at.extents x.0 = arm_has_extent at a x.0 x.1 in
     let new : Member = record { offset = offset; count = 1; shape = x.0; arm = Some (part, value) } in
     let here : LiesWithin at.extents end new = record {
       aligned = subst (λ (y : Extent). IsMultiple y.align offset) same fits.aligned;
@@ -207,12 +227,12 @@ arm_lies at unions part start offset end arms a out fits lie h =
     } in
     subst (λ (o : Arms). ArmsLie at.extents part offset end o) x.2 all
 
-abbrev AllFit : Types → List Extent → ℕ → ℕ → List Arm → Type 0
-AllFit types extents offset end [] = Unit {0}
-AllFit types extents offset end (a ∷ arms) = Fits offset end (type_extent types extents a.type_name) × AllFit types extents offset end arms
+abbrev AllFit : Types → ℕ → ℕ → List Arm → Type 0
+AllFit types offset end [] = Unit {0}
+AllFit types offset end (a ∷ arms) = Fits offset end (arm_extent types a.type_name) × AllFit types offset end arms
 
 arms_lie : (at : Surroundings) (unions : List UnionShape) (part start offset end : ℕ) (arms : Arms) (more : List Arm) (out : Arms)
-    → AllFit at.types at.extents offset end more → ArmsLie at.extents part offset end arms
+    → AllFit at.types offset end more → ArmsLie at.extents part offset end arms
     → with_arms_in_turn at unions part start offset arms more ≡ Ok out → ArmsLie at.extents part offset end out
 arms_lie at unions part start offset end arms [] out fit lie h = let e : arms ≡ out = cc in subst (λ (o : Arms). ArmsLie at.extents part offset end o) e lie
 arms_lie at unions part start offset end arms (a ∷ more) out fit lie h =
@@ -252,26 +272,27 @@ fits_less offset end x y p q l f = record {
 less_of_both : (x t y : Extent) → IsLess (greater x t) y → IsLess x y × IsLess t y
 less_of_both x t y l = (record { bytes = omega (arith, l.bytes); align = omega (arith, l.align) }, record { bytes = omega (arith, l.bytes); align = omega (arith, l.align) })
 
-arms_grow : (types : Types) (extents : List Extent) (x : Extent) (arms : List Arm) → IsLess x (arms_extent types extents x arms)
-arms_grow types extents x [] = record { bytes = omega arith; align = omega arith }
-arms_grow types extents x (a ∷ arms) = (less_of_both x (type_extent types extents a.type_name) _ (arms_grow types extents (greater x (type_extent types extents a.type_name)) arms)).0
+arms_grow : (types : Types) (x : Extent) (arms : List Arm) → IsLess x (arms_extent types x arms)
+arms_grow types x [] = record { bytes = omega arith; align = omega arith }
+arms_grow types x (a ∷ arms) = (less_of_both x (arm_extent types a.type_name) _ (arms_grow types (greater x (arm_extent types a.type_name)) arms)).0
 
-all_fit : (types : Types) (extents : List Extent) (offset end : ℕ) (x : Extent) (arms : List Arm)
-    → AreExtents extents → IsExtent x → Fits offset end (arms_extent types extents x arms) → AllFit types extents offset end arms
-all_fit types extents offset end x [] h p f = tt
-all_fit types extents offset end x (a ∷ arms) h p f =
-    let t : Extent = type_extent types extents a.type_name in
-    let is = type_is_extent types extents a.type_name h in
+all_fit : (types : Types) (offset end : ℕ) (x : Extent) (arms : List Arm) → IsExtent x → Fits offset end (arms_extent types x arms) → AllFit types offset end arms
+all_fit types offset end x [] p f = tt
+all_fit types offset end x (a ∷ arms) p f =
+    let t : Extent = arm_extent types a.type_name in
+    let is = arm_is_extent types a.type_name in
     let both = greater_is_extent x t p is in
-    let all = arms_is_extent types extents (greater x t) arms h both in
-    (fits_less offset end t (arms_extent types extents (greater x t) arms) is all (less_of_both x t _ (arms_grow types extents (greater x t) arms)).1 f, all_fit types extents offset end (greater x t) arms h both f)
+    let all = arms_is_extent types (greater x t) arms both in (
+      fits_less offset end t (arms_extent types (greater x t) arms) is all (less_of_both x t _ (arms_grow types (greater x t) arms)).1 f,
+      all_fit types offset end (greater x t) arms both f,
+    )
 
 union_lies : (at : Surroundings) (laying : Laying) (line : ℕ) (arms : List Arm) (name : List ℕ) (out : Laying)
     → AreExtents at.extents → Lie at.extents laying → with_union at laying line arms name ≡ Ok out → Lie at.extents out
 unfolding with_union with_union_at with_union_arms with_union_of
 union_lies at laying line arms name out extents lie h =
-    let extent : Extent = arms_extent at.types at.extents no_extent arms in
-    let is : IsExtent extent = arms_is_extent at.types at.extents no_extent arms extents no_extent_is in
+    let extent : Extent = union_extent at.types arms in
+    let is : IsExtent extent = union_is_extent at.types arms in
     let offset : ℕ = round_up_to extent.align laying.end in
     let above = rounded_above extent.align laying.end is.least in
     let u = if_ok (is_new_union at laying name) (with_union_at at laying line arms name extent) (refusal.NoDecl line) out h in
@@ -285,7 +306,7 @@ union_lies at laying line arms name out extents lie h =
       order = lie.order;
       ready = All-weaker (LiesWithin at.extents laying.end) (IsReady at.extents (length laying.unions) offset) (λ m. ended at.extents laying.end offset (length laying.unions) m above) laying.members lie.members;
     } in
-    let all = arms_lie at laying.unions (length laying.unions) (length laying.members) offset a.0 none arms r.0 (all_fit at.types at.extents offset a.0 no_extent arms extents no_extent_is room) before r.1 in
+    let all = arms_lie at laying.unions (length laying.unions) (length laying.members) offset a.0 none arms r.0 (all_fit at.types offset a.0 (natural 1) arms one_byte_is room) before r.1 in
     let next : Laying = with_union_of laying name offset extent a.0 r.0 in
     let lies : Lie at.extents next = record { members = all.members; order = all.order; least = omega (arith, lie.least) } in
     let same : next ≡ out = cc in subst (λ (o : Laying). Lie at.extents o) same lies

@@ -54,6 +54,18 @@ base_extent types extents t = unwrap_or (option_map (key_extent extents) (base_k
 unfoldable pub type_extent : Types → List Extent → TypeName → Extent
 type_extent types extents t = stars_extent (base_extent types extents t) t.stars
 
+-- the extent that a type has of its own, as an arm of a union: a number or a pointer has one, a struct has none
+abbrev pub own_extent : Element → Extent
+own_extent (element.Int scalar) = scalar_extent scalar
+own_extent (element.Struct s) = no_extent
+own_extent (element.Sentinel n) = natural 4
+own_extent (element.Nullterm n) = natural 4
+own_extent (element.Count n k) = natural 4
+
+-- the extent of a union's arm
+unfoldable pub arm_extent : Types → TypeName → Extent
+arm_extent types t = stars_extent (unwrap_or (option_map own_extent (base_key types.structs t.base)) no_extent) t.stars
+
 -- the next multiple of an alignment
 abbrev pub round_up_to : ℕ → ℕ → ℕ
 round_up_to align n = (n + (align - 1)) / align * align

@@ -28,7 +28,7 @@ use Rattle.deputy_types.specs.declared.sibling.Role.{Role}
 use Rattle.deputy_types.specs.declared.sibling.Role.TheVariants as role
 use Rattle.deputy_types.specs.declared.sibling.Unannotated.TheVariants as unannotated
 use Rattle.deputy_types.specs.Declarations.{typed_shape, declared_role}
-use Rattle.deputy_types.specs.Extents.{type_extent, no_extent, greater, round_up_to}
+use Rattle.deputy_types.specs.Extents.{natural, type_extent, arm_extent, greater, round_up_to}
 use Rattle.deputy_types.specs.Found.{with_name}
 use Rattle.deputy_types.specs.MemberTypes.{member_arrays, member_keys}
 use Rattle.deputy_types.specs.Options.{and_then}
@@ -174,10 +174,14 @@ unfoldable pub with_plain : Surroundings → Laying → ℕ → Declaration → 
 with_plain at laying line d = and_ok (or_no_decl line (field_declared at laying d))
     (λ x. placed laying line x.0 x.1 (type_extent at.types at.extents d.type_name))
 
--- the extent of a union: that of the greatest of its arms
-abbrev pub arms_extent : Types → List Extent → Extent → List Arm → Extent
-arms_extent types extents x [] = x
-arms_extent types extents x (a ∷ arms) = arms_extent types extents (greater x (type_extent types extents a.type_name)) arms
+-- the extent of the greatest of these arms and of x
+abbrev pub arms_extent : Types → Extent → List Arm → Extent
+arms_extent types x [] = x
+arms_extent types x (a ∷ arms) = arms_extent types (greater x (arm_extent types a.type_name)) arms
+
+-- the extent of a union: that of the greatest of its arms, and at least one byte
+abbrev pub union_extent : Types → List Arm → Extent
+union_extent types arms = arms_extent types (natural 1) arms
 
 -- a written constant
 abbrev pub const_value : Const → ℤ
@@ -286,7 +290,7 @@ with_union_at at laying line arms name extent = and_ok (within_limits line layin
 
 -- with a union
 unfoldable pub with_union : Surroundings → Laying → ℕ → List Arm → List ℕ → Result Laying TypeRefusal
-with_union at laying line arms name = if is_new_union at laying name then with_union_at at laying line arms name (arms_extent at.types at.extents no_extent arms)
+with_union at laying line arms name = if is_new_union at laying name then with_union_at at laying line arms name (union_extent at.types arms)
     else Err (refusal.NoDecl line)
 
 -- with a field

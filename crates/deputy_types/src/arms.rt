@@ -5,10 +5,10 @@ ghost use Rattle.std.specs.Ordering.{int_eq};
 ghost use Rattle.checked_tree.specs.Numbers.{is_of};
 ghost use Rattle.deputy_types.specs.StructLayout as spec;
 ghost use Rattle.deputy_types.specs.StructLayout.{around};
-ghost use Rattle.deputy_types.specs.Extents.{AreExtents, IsExtent, no_extent as nothing};
+ghost use Rattle.deputy_types.specs.Extents.{AreExtents, IsExtent};
 ghost use Rattle.deputy_types.specs.UnitLayout.{IsAnswer};
 
-use crate::extents::{greater, no_extent, type_extent};
+use crate::extents::{arm_extent, greater, natural};
 use crate::fields::is_first;
 use crate::laying::{Arms, Scope};
 use crate::typed_shapes::typed_shape;
@@ -18,15 +18,15 @@ use checked_tree::{Member, Scalar, Shape, UnionShape};
 use sd_base::{Memory, Name};
 use std::alloc::Global;
 
-/// The extent of a union: that of the greatest of its arms.
-pub(crate) fn arms_extent(types: &Types, extents: &[Extent], arms: &[Arm]) -> Extent
-    requires { AreExtents extents.now }
-    ensures value { result ≡ spec.arms_extent types.now extents.now nothing arms.now }
+/// The extent of a union: that of the greatest of its arms, and at least one byte.
+#[tactic(auto, using(crate::proofs::TypeExtents::union_is_extent))]
+pub(crate) fn union_extent(types: &Types, arms: &[Arm]) -> Extent
+    ensures value { result ≡ spec.union_extent types.now arms.now }
     ensures fits { IsExtent result }
 {
-    let mut greatest = no_extent();
+    let mut greatest = natural(1);
     for arm in arms {
-        greatest = greater(greatest, type_extent(types, extents, &arm.type_name));
+        greatest = greater(greatest, arm_extent(types, &arm.type_name));
     }
     greatest
 }

@@ -9,7 +9,7 @@ use c_tree::{Star, TypeName};
 use checked_tree::Scalar;
 
 /// A type whose alignment is its size.
-fn natural(bytes: u32) -> Extent
+pub(crate) fn natural(bytes: u32) -> Extent
     ensures { result ≡ spec.natural bytes }
 {
     Extent {
@@ -19,7 +19,7 @@ fn natural(bytes: u32) -> Extent
 }
 
 /// What is not there has no bytes.
-pub(crate) fn no_extent() -> Extent
+fn no_extent() -> Extent
     ensures { result ≡ spec.no_extent }
 {
     Extent { bytes: 0, align: 1 }
@@ -88,6 +88,29 @@ pub fn type_extent(types: &Types, extents: &[Extent], t: &TypeName) -> Extent
     ensures fits { AreExtents extents.now → IsExtent result }
 {
     stars_extent(base_extent(types, extents, t), t.stars.as_slice())
+}
+
+/// The extent that a type has of its own, as an arm of a union: a number or a pointer has one, a struct has none.
+fn own_extent(key: &Element) -> Extent
+    ensures { result ≡ spec.own_extent key.now }
+{
+    match key {
+        Element::Int(scalar) => scalar_extent(*scalar),
+        Element::Struct(_) => no_extent(),
+        Element::Sentinel(_) | Element::Nullterm(_) | Element::Count(_, _) => natural(4),
+    }
+}
+
+/// The extent of a union's arm.
+#[tactic(auto, unfolding(crate::specs::Extents::arm_extent))]
+pub(crate) fn arm_extent(types: &Types, t: &TypeName) -> Extent
+    ensures { result ≡ spec.arm_extent types.now t.now }
+{
+    let base = match base_key(&types.structs, &t.base) {
+        Some(key) => own_extent(&key),
+        None => no_extent(),
+    };
+    stars_extent(base, t.stars.as_slice())
 }
 
 /// The next multiple of an alignment.

@@ -5,7 +5,7 @@ ghost use Rattle.deputy_types.specs.StructLayout.{IsLaying, around};
 ghost use Rattle.deputy_types.specs.Extents.{AreExtents, IsExtent};
 ghost use Rattle.deputy_types.specs.UnitLayout.{IsAnswer};
 
-use crate::arms::{UnionPart, arms_extent, with_arms_in_turn};
+use crate::arms::{UnionPart, union_extent, with_arms_in_turn};
 use crate::extents::round_up_to;
 use crate::fields::within_limits;
 use crate::laying::{Arms, Laying, Scope};
@@ -145,6 +145,6 @@ pub(crate) fn with_union(
     if !is_new_union(at, &laying, name) {
         return Err(TypeRefusal::NoDecl(line));
     }
-    let extent = arms_extent(at.types, at.extents, arms);
+    let extent = union_extent(at.types, arms);
     with_union_at(alloc, at, laying, line, arms, name, extent)
 }

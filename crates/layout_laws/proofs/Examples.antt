@@ -26,7 +26,7 @@ use Rattle.checked_tree.specs.declared.units.ImageBlock.{ImageBlock}
 use Rattle.checked_tree.specs.Numbers.{is_of, converted}
 use Rattle.deputy_types.specs.declared.global.GlobalShape.{GlobalShape}
 use Rattle.deputy_types.specs.Declarations.{with_number, with_term, integer_number, pointer_number, edge_term, bound_end, both_ends, annotated_bounds, pointer_shape, typed_shape, declared_role}
-use Rattle.deputy_types.specs.Extents.{type_extent}
+use Rattle.deputy_types.specs.Extents.{type_extent, arm_extent}
 use Rattle.deputy_types.specs.Fitting.{place_value}
 use Rattle.deputy_types.specs.Found.{with_name, with_element, with_types, with_field, found_item}
 use Rattle.deputy_types.specs.Siblings.{is_new_member, with_member, with_sibling}
@@ -92,7 +92,7 @@ record IsItsTable (t : Table) : Type 0 where
   image : t.image ≡ []
 
 it_stands : IsOkAnd (layout the_text) IsItsTable
-unfolding layout table_with table_behind image_of with_item with_struct struct_laid head_of_struct struct_siblings laid_out with_plain field_declared is_new_field field_shape element_count placed within_limits is_first with_union with_union_at with_union_arms with_union_of is_new_union with_arm arm_shape arm_tag tag_holds tag_number is_own_tag is_of typed_shape pointer_shape annotated_bounds both_ends bound_end edge_term with_number with_term integer_number pointer_number declared_role type_extent base_key term_constant next_sum pointer_key star_key type_key pointed_key with_name with_sibling with_member is_new_member found_item with_types with_element with_field elem_shape table_of
+unfolding layout table_with table_behind image_of with_item with_struct struct_laid head_of_struct struct_siblings laid_out with_plain field_declared is_new_field field_shape element_count placed within_limits is_first with_union with_union_at with_union_arms with_union_of is_new_union with_arm arm_shape arm_tag tag_holds tag_number is_own_tag is_of typed_shape pointer_shape annotated_bounds both_ends bound_end edge_term with_number with_term integer_number pointer_number declared_role type_extent arm_extent base_key term_constant next_sum pointer_key star_key type_key pointed_key with_name with_sibling with_member is_new_member found_item with_types with_element with_field elem_shape table_of
 it_stands = record { structs = refl; image = refl }
 
 -- ---- globals

@@ -14,9 +14,9 @@ use Rattle.deputy_types.specs.declared.extent.Extent.{Extent}
 use Rattle.deputy_types.specs.declared.global.GlobalShape.{GlobalShape}
 use Rattle.deputy_types.specs.declared.refusal.TypeRefusal.TheVariants as refusal
 use Rattle.deputy_types.specs.declared.types.Types.{Types}
-use Rattle.deputy_types.specs.Extents.{no_extent, type_extent, round_up_to}
+use Rattle.deputy_types.specs.Extents.{type_extent, round_up_to}
 use Rattle.deputy_types.specs.UnitLayout.{functions_of}
-use Rattle.deputy_types.specs.StructLayout.{Surroundings, or_no_decl, field_declared, within_limits, placed, with_plain, arms_extent, with_arms_in_turn, is_new_union, with_union_of, with_union_arms, with_union_at, with_union, with_any_field, empty_struct, with_fields_in_turn, laid_out, struct_siblings}
+use Rattle.deputy_types.specs.StructLayout.{Surroundings, or_no_decl, field_declared, within_limits, placed, with_plain, union_extent, with_arms_in_turn, is_new_union, with_union_of, with_union_arms, with_union_at, with_union, with_any_field, empty_struct, with_fields_in_turn, laid_out, struct_siblings}
 use Rattle.deputy_types.specs.Table.{Table}
 use Rattle.deputy_types.specs.UnitLayout.{nothing_declared, with_global_shape, with_taken, strings_behind, with_item, with_items, table_of}
 use Rattle.deputy_types.proofs.Inversions.{ok_then, if_ok}
@@ -96,7 +96,7 @@ plain_counts at x line d out p =
 union_counts : (at : Surroundings) (x : Laying) (line : ℕ) (arms : List Arm) (name : List ℕ) (out : Laying) → with_union at x line arms name ≡ Ok out → out.fields ≡ x.fields + 1
 unfolding with_union with_union_at with_union_arms with_union_of
 union_counts at x line arms name out p =
-    let extent : Extent = arms_extent at.types at.extents no_extent arms in
+    let extent : Extent = union_extent at.types arms in
     let offset : ℕ = round_up_to extent.align x.end in
     let u = if_ok (is_new_union at x name) (with_union_at at x line arms name extent) (refusal.NoDecl line) out p in
     let a = ok_then (within_limits line x.fields (offset + extent.bytes)) (with_union_arms at x arms name offset extent) out u in

@@ -23,11 +23,11 @@ use Rattle.deputy_types.specs.declared.sibling.Role.TheVariants as role
 use Rattle.deputy_types.specs.declared.siblings.Siblings.{Siblings}
 use Rattle.deputy_types.specs.declared.struct_names.StructNames.{StructNames}
 use Rattle.deputy_types.specs.declared.types.Types.{Types}
-use Rattle.deputy_types.specs.Extents.{AreExtents, no_extent, type_extent, round_up_to}
+use Rattle.deputy_types.specs.Extents.{AreExtents, type_extent, round_up_to}
 use Rattle.deputy_types.specs.Found.{with_name}
 use Rattle.deputy_types.specs.Options.{and_then}
 use Rattle.deputy_types.specs.Siblings.{same_part, is_member, member_number, is_new_member, with_member, with_sibling, no_siblings}
-use Rattle.deputy_types.specs.StructLayout.{Surroundings, IsLaying, is_first, is_before, or_no_decl, is_new_field, field_shape, element_count, counted, field_declared, within_limits, placed, with_plain, const_value, arms_extent, arm_tag, arm_shape, with_arm_of, with_tagged_arm, with_arm, with_next_arm, with_arms_in_turn, is_new_union, with_union_of, with_union_arms, with_union_at, with_union, with_any_field, empty_struct, with_fields_in_turn, tags_of, next_part, with_field_sibling, with_arm_siblings, field_siblings, struct_siblings, laid_out}
+use Rattle.deputy_types.specs.StructLayout.{Surroundings, IsLaying, is_first, is_before, or_no_decl, is_new_field, field_shape, element_count, counted, field_declared, within_limits, placed, with_plain, const_value, union_extent, arm_tag, arm_shape, with_arm_of, with_tagged_arm, with_arm, with_next_arm, with_arms_in_turn, is_new_union, with_union_of, with_union_arms, with_union_at, with_union, with_any_field, empty_struct, with_fields_in_turn, tags_of, next_part, with_field_sibling, with_arm_siblings, field_siblings, struct_siblings, laid_out}
 use Rattle.deputy_types.specs.Table.{Table, field, arm, union_of, members_of}
 use Rattle.deputy_types.proofs.Inversions.{some_then, some_map, ok_then, ok_declared, if_some}
 use Rattle.layout_laws.specs.MemberLookups.{arm_names, member_names, union_names, look_up, EachMemberIsFound}
@@ -141,7 +141,7 @@ record AddsUnion (at : Surroundings) (x out : Laying) (arms : List Arm) (name : 
 adds_union : (at : Surroundings) (x : Laying) (line : ℕ) (arms : List Arm) (name : List ℕ) (out : Laying) → with_union at x line arms name ≡ Ok out → AddsUnion at x out arms name
 unfolding with_union with_union_at with_union_arms with_union_of is_new_union
 adds_union at x line arms name out p =
-    let extent : Extent = arms_extent at.types at.extents no_extent arms in
+    let extent : Extent = union_extent at.types arms in
     let offset : ℕ = round_up_to extent.align x.end in
     let known : Bool = list_any (bytes_eq name) x.names || is_before (length x.members) (member_number at.siblings.names None name) in
     let u = passed (is_new_union at x name) (with_union_at at x line arms name extent) (refusal.NoDecl line) out p in

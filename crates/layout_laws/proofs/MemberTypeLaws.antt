@@ -24,9 +24,9 @@ use Rattle.deputy_types.specs.declared.sibling.Unannotated.TheVariants as unanno
 use Rattle.deputy_types.specs.declared.siblings.Siblings.{Siblings}
 use Rattle.deputy_types.specs.declared.types.Types.{Types}
 use Rattle.deputy_types.specs.Declarations.{plain_shape, star_bounds, pointer_shape, shape_behind, typed_shape}
-use Rattle.deputy_types.specs.Extents.{no_extent, key_extent, type_extent, round_up_to}
+use Rattle.deputy_types.specs.Extents.{key_extent, type_extent, round_up_to}
 use Rattle.deputy_types.specs.Siblings.{no_siblings}
-use Rattle.deputy_types.specs.StructLayout.{Surroundings, or_no_decl, is_first, is_new_field, field_shape, field_declared, is_complete, if_complete, siblings_of, counted, element_count, within_limits, placed, with_plain, const_value, arms_extent, arm_tag, if_number, arm_shape, with_arm_of, with_tagged_arm, with_arm, with_next_arm, with_arms_in_turn, is_new_union, with_union_of, with_union_arms, with_union_at, with_union, with_any_field, empty_struct, with_fields_in_turn, laid_out, struct_siblings}
+use Rattle.deputy_types.specs.StructLayout.{Surroundings, or_no_decl, is_first, is_new_field, field_shape, field_declared, is_complete, if_complete, siblings_of, counted, element_count, within_limits, placed, with_plain, const_value, union_extent, arm_tag, if_number, arm_shape, with_arm_of, with_tagged_arm, with_arm, with_next_arm, with_arms_in_turn, is_new_union, with_union_of, with_union_arms, with_union_at, with_union, with_any_field, empty_struct, with_fields_in_turn, laid_out, struct_siblings}
 use Rattle.deputy_types.specs.Types.{element_number, same_element, pointed_key, last_star}
 use Rattle.deputy_types.specs.UnitLayout.{elem_shape}
 use Rattle.deputy_types.proofs.Inversions.{some_then, some_map, if_some, ok_then, ok_declared, if_ok}
@@ -139,7 +139,7 @@ arms_types at unions part start offset arms (a ∷ more) out all h =
 union_types : (at : Surroundings) (x : Laying) (line : ℕ) (arms : List Arm) (name : List ℕ) (out : Laying) → AreTyped at x.members → with_union at x line arms name ≡ Ok out → AreTyped at out.members
 unfolding with_union with_union_at with_union_arms with_union_of
 union_types at x line arms name out all p =
-    let extent : Extent = arms_extent at.types at.extents no_extent arms in
+    let extent : Extent = union_extent at.types arms in
     let offset : ℕ = round_up_to extent.align x.end in
     let u = if_ok (is_new_union at x name) (with_union_at at x line arms name extent) (refusal.NoDecl line) out p in
     let a = ok_then (within_limits line x.fields (offset + extent.bytes)) (with_union_arms at x arms name offset extent) out u in

@@ -23,10 +23,10 @@ use Rattle.deputy_types.specs.declared.sibling.Unannotated.TheVariants as unanno
 use Rattle.deputy_types.specs.declared.siblings.Siblings.{Siblings}
 use Rattle.deputy_types.specs.declared.types.Types.{Types}
 use Rattle.deputy_types.specs.Declarations.{plain_shape, shape_behind, typed_shape}
-use Rattle.deputy_types.specs.Extents.{no_extent, struct_extent, key_extent, stars_extent, type_extent, round_up_to, greater}
+use Rattle.deputy_types.specs.Extents.{no_extent, struct_extent, key_extent, stars_extent, type_extent, round_up_to}
 use Rattle.deputy_types.specs.Options.{and_then}
 use Rattle.deputy_types.specs.Siblings.{no_siblings}
-use Rattle.deputy_types.specs.StructLayout.{Surroundings, is_first, is_new_field, field_shape, field_declared, is_complete, if_complete, siblings_of, counted, element_count, within_limits, or_no_decl, placed, with_plain, arms_extent, const_value, arm_tag, if_number, arm_shape, with_arm_of, with_tagged_arm, with_arm, with_next_arm, with_arms_in_turn, is_new_union, with_union_of, with_union_arms, with_union_at, with_union, with_any_field, empty_struct, with_fields_in_turn, laid_out, head_of_struct, struct_siblings, laid_with, struct_laid}
+use Rattle.deputy_types.specs.StructLayout.{Surroundings, is_first, is_new_field, field_shape, field_declared, is_complete, if_complete, siblings_of, counted, element_count, within_limits, or_no_decl, placed, with_plain, union_extent, with_arms_in_turn, is_new_union, with_union_of, with_union_arms, with_union_at, with_union, with_any_field, empty_struct, with_fields_in_turn, laid_out, head_of_struct, struct_siblings, laid_with, struct_laid}
 use Rattle.deputy_types.specs.StructLaws.{AgreeBelow}
 use Rattle.deputy_types.proofs.Inversions.{some_then, some_map, if_some, ok_then, ok_declared, if_ok, unless_ok, within_is}
 use Rattle.deputy_types.specs.Types.{base_key, stars_key, front_stars, last_star, pointed_key}
@@ -142,43 +142,10 @@ plain_same at now x y line d o p agree same h k =
     some_same h = cc
 
 -- ---- a union
-no_struct : (s : ℕ) (y x : Shape) → shape.Struct s ≡ y → if_number y ≡ Some x → ⊥
-no_struct s y x e h = let g : if_number (shape.Struct s) ≡ Some x = subst (λ (z : Shape). if_number z ≡ Some x) (sym e) h in cc
-
-number_same : (at : Surroundings) (now : List Extent) (a : Arm) (x : Shape) → arm_shape at a ≡ Some x → type_extent at.types at.extents a.type_name ≡ type_extent at.types now a.type_name
-unfolding arm_shape
-number_same at now a x h =
-    let t = some_then (typed_shape at.types at.extents unannotated.Safe no_siblings 0 a.type_name) if_number x h in
-    same_type at.types at.extents now unannotated.Safe no_siblings 0 a.type_name t.0 t.1 (λ s e. absurd (no_struct s t.0 x e t.2))
-
-arm_same : (at : Surroundings) (now : List Extent) (unions : List UnionShape) (part start offset : ℕ) (arms : Arms) (a : Arm) (out : Arms)
-    → with_arm at unions part start offset arms a ≡ Some out → type_extent at.types at.extents a.type_name ≡ type_extent at.types now a.type_name
-unfolding with_arm
-arm_same at now unions part start offset arms a out h =
-    let value : ℤ = const_value a.value in
-    let c = if_some (is_first at.siblings (length arms.members) (Some part) a.name) (and_then (arm_tag at unions start arms a.tag value) (with_tagged_arm at part offset arms a)) out h in
-    let k = some_then (arm_tag at unions start arms a.tag value) (with_tagged_arm at part offset arms a) out c in
-    let x = some_map (arm_shape at a) (with_arm_of part offset arms value k.0) out k.2 in
-    number_same at now a x.0 x.1
-
-arms_same : (at : Surroundings) (now : List Extent) (unions : List UnionShape) (part start offset : ℕ) (arms : Arms) (more : List Arm) (out : Arms) (z : Extent)
-    → with_arms_in_turn at unions part start offset arms more ≡ Ok out → arms_extent at.types at.extents z more ≡ arms_extent at.types now z more
-arms_same at now unions part start offset arms [] out z h = refl
-arms_same at now unions part start offset arms (a ∷ more) out z h =
-    let n = ok_then (with_next_arm at unions part start offset arms a) (λ next. with_arms_in_turn at unions part start offset next more) out h in
-    let same = arm_same at now unions part start offset arms a n.0 (ok_declared a.line (with_arm at unions part start offset arms a) n.0 n.1) in
-    arms_same at now unions part start offset n.0 more out (greater z (type_extent at.types at.extents a.type_name)) n.2
-    ∙ ap (λ (t : Extent). arms_extent at.types now (greater z t) more) same
-
--- where a union was placed, and that later structs do not change its extent
-record IsJoined (at : Surroundings) (laying : Laying) (arms : List Arm) (out : Laying) : Type 0 where
-  place : IsPlaced laying 1 (arms_extent at.types at.extents no_extent arms) out
-  same : (now : List Extent) → arms_extent at.types at.extents no_extent arms ≡ arms_extent at.types now no_extent arms
-
-is_joined : (at : Surroundings) (laying : Laying) (line : ℕ) (arms : List Arm) (name : List ℕ) (out : Laying) → with_union at laying line arms name ≡ Ok out → IsJoined at laying arms out
+is_joined : (at : Surroundings) (laying : Laying) (line : ℕ) (arms : List Arm) (name : List ℕ) (out : Laying) → with_union at laying line arms name ≡ Ok out → IsPlaced laying 1 (union_extent at.types arms) out
 unfolding with_union with_union_at with_union_arms with_union_of
 is_joined at laying line arms name out h =
-    let extent : Extent = arms_extent at.types at.extents no_extent arms in
+    let extent : Extent = union_extent at.types arms in
     let offset : ℕ = round_up_to extent.align laying.end in
     let u = if_ok (is_new_union at laying name) (with_union_at at laying line arms name extent) (refusal.NoDecl line) out h in
     let a = ok_then (within_limits line laying.fields (offset + extent.bytes)) (with_union_arms at laying arms name offset extent) out u in
@@ -187,20 +154,15 @@ is_joined at laying line arms name out h =
     let r = ok_then (with_arms_in_turn at laying.unions (length laying.unions) (length laying.members) offset none arms) (λ read. Ok (with_union_of laying name offset extent a.0 read)) out a.2 in
     let next : Laying = with_union_of laying name offset extent a.0 r.0 in
     let is : IsPlaced laying 1 extent next = record { end = omega (arith, e); align = refl } in
-    let same : next ≡ out = cc in
-    record {
-      place = subst (λ (o : Laying). IsPlaced laying 1 extent o) same is;
-      same = λ now. arms_same at now laying.unions (length laying.unions) (length laying.members) offset none arms r.0 no_extent r.1;
-    }
+    let same : next ≡ out = cc in subst (λ (o : Laying). IsPlaced laying 1 extent o) same is
 
 -- ---- a struct
 any_same : (at : Surroundings) (now : List Extent) (x y : Laying) (z : Field) (o p : Laying) → AgreeBelow at.number at.extents now
     → Same x y → with_any_field at x z ≡ Ok o → with_any_field (later at now) y z ≡ Ok p → Same o p
 any_same at now x y (field.Plain line d) o p agree same h k = plain_same at now x y line d o p agree same h k
 any_same at now x y (field.Union line arms name) o p agree same h k =
-    let first = is_joined at x line arms name o h in
-    let second = is_joined (later at now) y line arms name p k in
-    same_place x y 1 1 (arms_extent at.types at.extents no_extent arms) (arms_extent at.types now no_extent arms) o p same refl (first.same now) first.place second.place
+    let extent : Extent = union_extent at.types arms in
+    same_place x y 1 1 extent extent o p same refl refl (is_joined at x line arms name o h) (is_joined (later at now) y line arms name p k)
 
 fields_same : (at : Surroundings) (now : List Extent) (x y : Laying) (fields : List Field) (o p : Laying) → AgreeBelow at.number at.extents now
     → Same x y → with_fields_in_turn at x fields ≡ Ok o → with_fields_in_turn (later at now) y fields ≡ Ok p → Same o p

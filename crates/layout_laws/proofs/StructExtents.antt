@@ -13,14 +13,14 @@ use Rattle.deputy_types.specs.declared.extent.Extent.{Extent}
 use Rattle.deputy_types.specs.declared.refusal.TypeRefusal.TheVariants as refusal
 use Rattle.deputy_types.specs.declared.siblings.Siblings.{Siblings}
 use Rattle.deputy_types.specs.declared.types.Types.{Types}
-use Rattle.deputy_types.specs.Extents.{IsExtent, AreExtents, no_extent, type_extent, round_up_to}
-use Rattle.deputy_types.specs.StructLayout.{Surroundings, IsLaying, or_no_decl, field_declared, within_limits, placed, with_plain, arms_extent, with_arms_in_turn, is_new_union, with_union_of, with_union_arms, with_union_at, with_union, with_any_field, empty_struct, with_fields_in_turn, laid_out, head_of_struct, struct_siblings, laid_with, struct_laid}
+use Rattle.deputy_types.specs.Extents.{IsExtent, AreExtents, type_extent, round_up_to}
+use Rattle.deputy_types.specs.StructLayout.{Surroundings, IsLaying, or_no_decl, field_declared, within_limits, placed, with_plain, union_extent, with_arms_in_turn, is_new_union, with_union_of, with_union_arms, with_union_at, with_union, with_any_field, empty_struct, with_fields_in_turn, laid_out, head_of_struct, struct_siblings, laid_with, struct_laid}
 use Rattle.deputy_types.proofs.Inversions.{ok_then, if_ok, unless_ok}
 use Rattle.deputy_types.specs.declared.laying.Arms.{Arms}
 use Rattle.deputy_types.specs.declared.laying.Laid.{Laid}
 use Rattle.deputy_types.specs.declared.laying.Laying.{Laying}
 use Rattle.layout_laws.proofs.Steps.{else_ok}
-use Rattle.deputy_types.proofs.TypeExtents.{IsAlign, align_of, max_align, no_extent_is, type_is_extent, arms_is_extent}
+use Rattle.deputy_types.proofs.TypeExtents.{IsAlign, align_of, max_align, type_is_extent, union_is_extent}
 
 -- a field that ends within the limits
 record EndsWithin (fields end out : ℕ) : Type 0 where
@@ -75,8 +75,8 @@ union_laying : (at : Surroundings) (x : Laying) (line : ℕ) (arms : List Arm) (
     → AreExtents at.extents → IsLaying x → with_union at x line arms name ≡ Ok out → IsLaying out
 unfolding with_union with_union_at with_union_arms with_union_of
 union_laying at x line arms name out extents h p =
-    let extent : Extent = arms_extent at.types at.extents no_extent arms in
-    let is : IsExtent extent = arms_is_extent at.types at.extents no_extent arms extents no_extent_is in
+    let extent : Extent = union_extent at.types arms in
+    let is : IsExtent extent = union_is_extent at.types arms in
     let offset : ℕ = round_up_to extent.align x.end in
     let u = if_ok (is_new_union at x name) (with_union_at at x line arms name extent) (refusal.NoDecl line) out p in
     let a = ok_then (within_limits line x.fields (offset + extent.bytes)) (with_union_arms at x arms name offset extent) out u in

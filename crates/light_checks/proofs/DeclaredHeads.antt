@@ -1,6 +1,5 @@
--- The parameters of a function, as calls see them: where each stands, what their annotations name as a number of elements is an integer; where one does not, they see
--- none.
-use Rattle.std.proofs.Common.{◌≡◌, ℕ, zero, suc, ◌+◌, ◌≤◌, Bool, true, false, cond, not, nat_lt, is_none, List, [], ◌∷◌, ◌++◌, map, length, Option, Some, None, position, bytes_eq, slice_get, if◌then◌else◌, All, refl, sym, ap, ◌∙◌, subst, append-nil, arith}
+-- What calls see of a function is within the bounds: where each of its parameters stands, what annotations name as a number of elements is an integer.
+use Rattle.std.proofs.Common.{◌≡◌, ℕ, zero, suc, ◌+◌, ◌≤◌, Bool, true, false, cond, not, nat_lt, is_some, is_none, List, [], ◌∷◌, ◌++◌, map, length, Option, Some, None, position, bytes_eq, slice_get, if◌then◌else◌, All, refl, sym, ap, ◌∙◌, subst, append-nil, arith}
 use Rattle.std.specs.List.{position_or_len}
 use Rattle.std.specs.Option.{option_flatten}
 use Rattle.std.proofs.lemmas.Bool.{and_parts}
@@ -17,59 +16,58 @@ use Rattle.deputy_types.specs.Extents.{key_extent}
 use Rattle.deputy_types.specs.Siblings.{role_of, no_siblings}
 use Rattle.deputy_types.specs.Table.{Table}
 use Rattle.deputy_rules.specs.Agreement.{parameter_place, same_place}
-use Rattle.deputy_rules.specs.Heads.{parameter_siblings, parameter_shape, parameter_shapes, is_declared, head_parameter_stands, wrong_head_parameter, wrong_in_head, no_shapes, seen_shapes}
+use Rattle.deputy_rules.specs.Heads.{parameter_siblings, named_shape, parameter_shape, parameter_shapes, is_declared, head_parameter_stands, wrong_head_parameter, wrong_in_head, no_shapes, seen_shapes}
 use Rattle.light_checks.specs.Within.{is_integer, shape_at, IsShape, AreShapes}
 use Rattle.light_checks.specs.Words.{IsReadable}
-use Rattle.light_checks.proofs.DeclaredSlots.{Decl, first, parameter_decl, Aligned, AreFirst, aligned_all, no_decls, with_parameters_is, map_length, if_none, same_is, integer_at_role, mapped_named, named_is}
+use Rattle.light_checks.proofs.DeclaredSlots.{Decl, first, parameter_decl, with_parameters_is, Aligned, AreFirst, aligned_all, if_none, same_is, map_length, mapped_named, AreNamed, integer_at_role, named_is}
 
--- ---- the place of a name
-names_place : (q : List ℕ → Bool) (ps : List Param) → position_or_len q (map first (map parameter_decl ps)) ≡ position_or_len (λ (p : Param). q p.name) ps
-names_place q [] = refl
-names_place q (p ∷ ps) = ap (λ n. cond (not (q p.name)) (1 + n) 0) (names_place q ps)
+abbrev HasReadableType : Param → Type 0
+HasReadableType p = IsReadable (type_words p.type_name)
 
-names_length : (ps : List Param) → length (map first (map parameter_decl ps)) ≡ length ps
-names_length ps = map_length first (map parameter_decl ps) ∙ map_length parameter_decl ps
+-- the place of a parameter is that of its name among the names
+place_or_length : (x : List ℕ) (ps : List Param) → position_or_len (λ (p : Param). bytes_eq x p.name) ps ≡ position_or_len (bytes_eq x) (map first (map parameter_decl ps))
+place_or_length x [] = refl
+place_or_length x (p ∷ ps) = ap (λ n. cond (not (bytes_eq x p.name)) (1 + n) 0) (place_or_length x ps)
 
-place_named : (ps : List Param) (name : List ℕ) → position (bytes_eq name) (map first (map parameter_decl ps)) ≡ parameter_place ps name
-place_named ps name =
-    let q : List ℕ → Bool = bytes_eq name in
-    let names = map first (map parameter_decl ps) in
-    let found : ℕ → ℕ → Option ℕ = λ n m. if nat_lt n m then Some n else None in
-    ap (λ n. found n (length names)) (names_place q ps) ∙ ap (found (position_or_len (λ (p : Param). q p.name) ps)) (names_length ps)
+named_length : (ps : List Param) → length ps ≡ length (map first (map parameter_decl ps))
+named_length [] = refl
+named_length (p ∷ ps) = ap (λ n. suc n) (named_length ps)
 
--- ---- parameters that stand
-abbrev HeadStands : List Param → List (Option Shape) → ℕ → List Param → Type 0
-HeadStands all shapes i [] = Unit {0}
-HeadStands all shapes i (p ∷ ps) = (head_parameter_stands all shapes i p.name ≡ true) × HeadStands all shapes (i + 1) ps
+if_below : (m n i j : ℕ) → m ≡ n → i ≡ j → ◌≡◌ {A = Option ℕ} (if nat_lt m i then Some m else None) (if nat_lt n j then Some n else None)
+if_below m n i j p q = cc
 
-they_stand : (all : List Param) (shapes : List (Option Shape)) (i : ℕ) (ps : List Param) → wrong_head_parameter all shapes i ps ≡ None → HeadStands all shapes i ps
-they_stand all shapes i [] h = tt
-they_stand all shapes i (p ∷ ps) h =
-    let b = if_none (head_parameter_stands all shapes i p.name) (wrong_head_parameter all shapes (i + 1) ps) p.line h in (b.0, they_stand all shapes (i + 1) ps b.1)
+place_named : (x : List ℕ) (ps : List Param) → parameter_place ps x ≡ position (bytes_eq x) (map first (map parameter_decl ps))
+place_named x ps =
+    if_below (position_or_len (λ (p : Param). bytes_eq x p.name) ps) (position_or_len (bytes_eq x) (map first (map parameter_decl ps))) (length ps) (length (map first (map parameter_decl ps)))
+    (place_or_length x ps) (named_length ps)
 
-first_in_head : (all : List Param) (shapes : List (Option Shape)) (i : ℕ) (ps : List Param) → HeadStands all shapes i ps → AreFirst (map first (map parameter_decl all)) i (map parameter_decl ps)
+-- parameters that stand, from the i-th on
+abbrev AllStand : List Param → List (Option Shape) → ℕ → List Param → Type 0
+AllStand params shapes i [] = Unit {0}
+AllStand params shapes i (p ∷ ps) = (head_parameter_stands params shapes i p.name ≡ true) × AllStand params shapes (i + 1) ps
+
+all_stand : (params : List Param) (shapes : List (Option Shape)) (i : ℕ) (ps : List Param) → wrong_head_parameter params shapes i ps ≡ None → AllStand params shapes i ps
+all_stand params shapes i [] h = tt
+all_stand params shapes i (p ∷ ps) h =
+    let b = if_none (head_parameter_stands params shapes i p.name) (wrong_head_parameter params shapes (i + 1) ps) p.line h in (b.0, all_stand params shapes (i + 1) ps b.1)
+
+are_first : (params : List Param) (shapes : List (Option Shape)) (i : ℕ) (ps : List Param) → AllStand params shapes i ps
+    → AreFirst (map first (map parameter_decl params)) i (map parameter_decl ps)
 unfolding head_parameter_stands
-first_in_head all shapes i [] s = tt
-first_in_head all shapes i (p ∷ ps) s = (
-  place_named all p.name ∙ same_is (parameter_place all p.name) i (and_parts (same_place (parameter_place all p.name) (Some i)) (is_declared shapes i) s.0).0,
-  first_in_head all shapes (i + 1) ps s.1,
-)
+are_first params shapes i [] s = tt
+are_first params shapes i (p ∷ ps) s =
+    let here = (and_parts (same_place (parameter_place params p.name) (Some i)) (is_declared shapes i) s.0).0 in
+    (sym (place_named p.name params) ∙ same_is (parameter_place params p.name) i here, are_first params shapes (i + 1) ps s.1)
 
-declared_in_head : (all : List Param) (shapes : List (Option Shape)) (i : ℕ) (ps : List Param) (k : ℕ) (d : Decl) → HeadStands all shapes i ps → slice_get (map parameter_decl ps) k ≡ Some d
-    → is_declared shapes (i + k) ≡ true
+are_declared : (params : List Param) (shapes : List (Option Shape)) (i : ℕ) (ps : List Param) (k : ℕ) (d : Decl) → AllStand params shapes i ps
+    → slice_get (map parameter_decl ps) k ≡ Some d → is_declared shapes (i + k) ≡ true
 unfolding head_parameter_stands
-declared_in_head all shapes i [] k d s h = absurd cc
-declared_in_head all shapes i (p ∷ ps) zero d s h =
-    subst (λ n. is_declared shapes n ≡ true) (omega arith) (and_parts (same_place (parameter_place all p.name) (Some i)) (is_declared shapes i) s.0).1
-declared_in_head all shapes i (p ∷ ps) (suc k) d s h = subst (λ n. is_declared shapes n ≡ true) (omega arith) (declared_in_head all shapes (i + 1) ps k d s.1 h)
+are_declared params shapes i [] k d s h = absurd cc
+are_declared params shapes i (p ∷ ps) zero d s h =
+    subst (λ n. is_declared shapes n ≡ true) (omega arith) (and_parts (same_place (parameter_place params p.name) (Some i)) (is_declared shapes i) s.0).1
+are_declared params shapes i (p ∷ ps) (suc k) d s h = subst (λ n. is_declared shapes n ≡ true) (omega arith) (are_declared params shapes (i + 1) ps k d s.1 h)
 
--- ---- the shapes of the parameters
-none_seen : (shapes xs : List (Option Shape)) → All (IsShape shapes) (no_shapes xs)
-none_seen shapes [] = All-nil (IsShape shapes)
-none_seen shapes (x ∷ xs) = All-cons (IsShape shapes) None (no_shapes xs) tt (none_seen shapes xs)
-
-module _ (t : Table) (sizes : (key : Element) → (key_extent t.extents key).bytes ≤ 65536) (h : Head) (few : length h.params ≤ 1000)
-    (words : All (λ (p : Param). IsReadable (type_words p.type_name)) h.params) where
+module _ (t : Table) (sizes : (key : Element) → (key_extent t.extents key).bytes ≤ 65536) (h : Head) (words : All HasReadableType h.params) (few : length h.params ≤ 1000) where
   abbrev ps : List Param
   ps = h.params
 
@@ -82,37 +80,42 @@ module _ (t : Table) (sizes : (key : Element) → (key_extent t.extents key).byt
   abbrev shapes : List (Option Shape)
   shapes = parameter_shapes t ps
 
-  module _ (right : wrong_in_head shapes h ≡ None) where
-    stand : HeadStands ps shapes 0 ps
-    unfolding wrong_in_head
-    stand = they_stand ps shapes 0 ps right
+  no_decls : Aligned t.types [] no_siblings
+  no_decls = record { names = refl; roles = refl }
 
-    aligned : Aligned t.types pd siblings
-    unfolding parameter_siblings
-    aligned =
-        let size = map_length parameter_decl ps in
-        subst (Aligned t.types pd) (sym (with_parameters_is t.types ps no_siblings))
-        (aligned_all t.types (map first pd) [] pd [] no_siblings (no_decls t.types) (sym (append-nil (map first pd))) (first_in_head ps shapes 0 ps stand) (omega arith))
+  param_at : (k : ℕ) (d : Decl) → slice_get pd k ≡ Some d → slice_get shapes k ≡ Some (named_shape t Safe siblings d.0 d.1)
+  unfolding parameter_shapes
+  param_at k d e = mapped_named t Safe siblings parameter_decl ps k d e
 
-    shape_there : (k : ℕ) (d : Decl) → slice_get pd k ≡ Some d → is_declared shapes k ≡ true
-    shape_there k d e = subst (λ n. is_declared shapes n ≡ true) (omega arith) (declared_in_head ps shapes 0 ps k d stand e)
+  aligned : AllStand ps shapes 0 ps → Aligned t.types pd siblings
+  unfolding parameter_siblings
+  aligned stand =
+      let size = map_length parameter_decl ps in
+      subst (Aligned t.types pd) (sym (with_parameters_is t.types ps no_siblings))
+      (aligned_all t.types (map first pd) [] pd [] no_siblings no_decls (sym (append-nil (map first pd))) (are_first ps shapes 0 ps stand) (omega arith))
 
-    integers : (k : ℕ) → role_of siblings k ≡ Some role.Integer → is_integer (shape_at shapes k) ≡ true
-    unfolding parameter_shapes
-    integers = integer_at_role t pd siblings shapes aligned (λ k d e. (Safe, siblings, mapped_named t Safe siblings parameter_decl ps k d e)) shape_there
+  integers : AllStand ps shapes 0 ps → (k : ℕ) → role_of siblings k ≡ Some role.Integer → is_integer (shape_at shapes k) ≡ true
+  integers stand =
+      integer_at_role t pd siblings shapes (aligned stand) (λ k d e. (Safe, siblings, param_at k d e))
+      (λ k d e. subst (λ n. is_declared shapes n ≡ true) (omega arith) (are_declared ps shapes 0 ps k d stand e))
 
-    standing_are : AreShapes shapes
-    unfolding parameter_shapes
-    standing_are =
-        All-map (IsShape shapes) (parameter_shape t siblings) ps
-        (All-weaker (λ (p : Param). IsReadable (type_words p.type_name)) (λ p. IsShape shapes (parameter_shape t siblings p))
-        (λ p r. named_is t sizes Safe siblings shapes p.name p.type_name integers r) ps words)
+  stands_are : wrong_in_head shapes h ≡ None → AreShapes shapes
+  unfolding parameter_shapes wrong_in_head
+  stands_are none =
+      let stand = all_stand ps shapes 0 ps none in
+      All-map (IsShape shapes) (parameter_shape t siblings) ps
+      (All-weaker HasReadableType (λ p. IsShape shapes (parameter_shape t siblings p))
+      (λ p r. named_is t sizes Safe siblings shapes p.name p.type_name (integers stand) r) ps words)
 
-  -- what calls see
+  all_none : (around ss : List (Option Shape)) → All (IsShape around) (no_shapes ss)
+  all_none around [] = All-nil (IsShape around)
+  all_none around (s ∷ ss) = All-cons (IsShape around) None (no_shapes ss) tt (all_none around ss)
+
+  -- the parameters, as calls see them
   pub seen_are : AreShapes (seen_shapes shapes h)
   unfolding seen_shapes
   seen_are = by (wrong_in_head shapes h) refl
     where
       by : (o : Option ℕ) → wrong_in_head shapes h ≡ o → AreShapes (if is_none o then shapes else no_shapes shapes)
-      by None e = standing_are e
-      by (Some line) e = none_seen (no_shapes shapes) shapes
+      by None e = stands_are e
+      by (Some n) e = all_none (no_shapes shapes) shapes

@@ -1,4 +1,4 @@
--- Declarations by name, and the slots of a function whose declarations stand: what its annotations name as a number of elements is an integer.
+-- The slots of a function whose declarations stand: what its annotations name as a number of elements is an integer.
 use Rattle.std.proofs.Common.{◌≡◌, ◌⊎◌, inl, inr, ℕ, zero, suc, ◌+◌, ◌-◌, ◌≤◌, ◌<◌, ◌^◌, Bool, true, false, cond, not, nat_lt, is_some, List, [], ◌∷◌, ◌++◌, map, length, Option, Some, None, option_map, position, ◌||◌, bytes_eq, slice_get, if◌then◌else◌, All, refl, sym, ap, ◌∙◌, subst, append-nil, append_assoc, arith}
 use Rattle.std.specs.List.{list_any, position_or_len}
 use Rattle.std.specs.Option.{option_flatten}
@@ -175,9 +175,6 @@ aligned_push types ds d s a h few =
       roles = ap (λ rs. rs ++ r ∷ []) a.roles ∙ sym (map_push (decl_role types) ds d);
     } in
     subst (Aligned types (ds ++ d ∷ [])) (sym (joined s m r (is_new s.names m none (omega arith)))) both
-
-pub no_decls : (types : Types) → Aligned types [] no_siblings
-no_decls types = record { names = refl; roles = refl }
 
 -- each name is the first that is spelled so
 abbrev pub AreFirst : List (List ℕ) → ℕ → List Decl → Type 0
@@ -415,13 +412,16 @@ module _ (t : Table) (sizes : (key : Element) → (key_extent t.extents key).byt
       subst (λ n. Stand (locals_of f) final n ld) (sym (map_length parameter_decl ps))
       (locals_stand (locals_of f) final (length ps) ls (both_none (wrong_parameter (locals_of f) final 0 ps) (wrong_local (locals_of f) final (length ps) ls) is.stands).1)
 
+  no_decls : Aligned t.types [] no_siblings
+  no_decls = record { names = refl; roles = refl }
+
   params_aligned : Aligned t.types pd param_siblings
   unfolding parameter_siblings
   params_aligned =
       let size = map_length parameter_decl ps in
       let few = few_slots in
       subst (Aligned t.types pd) (sym (with_parameters_is t.types ps no_siblings))
-      (aligned_all t.types (slot_names f) (map (λ (l : Local). l.name) ls) pd [] no_siblings (no_decls t.types) names_are (are_first f final 0 pd params_stand) (omega arith))
+      (aligned_all t.types (slot_names f) (map (λ (l : Local). l.name) ls) pd [] no_siblings no_decls names_are (are_first f final 0 pd params_stand) (omega arith))
 
   all_aligned : Aligned t.types (pd ++ ld) all_siblings
   unfolding local_siblings

@@ -35,12 +35,12 @@ use Rattle.deputy_types.specs.declared.siblings.Siblings.{Siblings}
 use Rattle.deputy_types.specs.declared.types.Types.{Types}
 use Rattle.deputy_rules.specs.Changes.{shape_of}
 use Rattle.deputy_types.specs.Declarations.{typed_shape, declared_role}
-use Rattle.deputy_types.specs.Extents.{IsExtent, AreExtents, natural, no_extent, key_extent, stars_extent, type_extent, round_up_to, greater}
+use Rattle.deputy_types.specs.Extents.{IsExtent, AreExtents, natural, key_extent, stars_extent, type_extent, round_up_to, greater}
 use Rattle.deputy_types.specs.Options.{and_then}
 use Rattle.deputy_types.specs.Siblings.{is_member, member_number, role_of, is_new_member, with_member, with_sibling, no_siblings}
-use Rattle.deputy_types.specs.StructLayout.{Surroundings, or_no_decl, tags_of, with_field_sibling, with_arm_siblings, next_part, field_siblings, struct_siblings, is_number, is_first, is_new_field, field_shape, field_declared, is_complete, if_complete, siblings_of, counted, element_count, within_limits, placed, with_plain, arms_extent, const_value, arm_tag, if_number, arm_shape, with_arm_of, with_tagged_arm, with_arm, with_next_arm, with_arms_in_turn, is_new_union, with_union_of, with_union_arms, with_union_at, with_union, empty_struct, with_fields_in_turn, laid_out, head_of_struct, laid_with, struct_laid}
+use Rattle.deputy_types.specs.StructLayout.{Surroundings, or_no_decl, tags_of, with_field_sibling, with_arm_siblings, next_part, field_siblings, struct_siblings, is_number, is_first, is_new_field, field_shape, field_declared, is_complete, if_complete, siblings_of, counted, element_count, within_limits, placed, with_plain, union_extent, const_value, arm_tag, if_number, arm_shape, with_arm_of, with_tagged_arm, with_arm, with_next_arm, with_arms_in_turn, is_new_union, with_union_of, with_union_arms, with_union_at, with_union, empty_struct, with_fields_in_turn, laid_out, head_of_struct, laid_with, struct_laid}
 use Rattle.deputy_types.specs.Types.{base_key}
-use Rattle.deputy_types.proofs.TypeExtents.{key_is_extent, no_extent_is, type_is_extent, arms_is_extent}
+use Rattle.deputy_types.proofs.TypeExtents.{key_is_extent, type_is_extent, union_is_extent}
 use Rattle.deputy_types.proofs.Inversions.{some_then, some_map, if_some, ok_then, ok_declared, if_ok, unless_ok, within_is}
 use Rattle.light_checks.specs.Within.{is_integer, shape_at, IsShape, AreShapes}
 use Rattle.light_checks.specs.Words.{IsReadable}
@@ -355,8 +355,8 @@ module _ (at : Surroundings) (extents : AreExtents at.extents) where
       → Sound at.siblings (with_arm_siblings (length laying.unions) s arms) out × (length out.members ≡ length laying.members + length arms) × (length out.unions ≡ length laying.unions + 1)
   unfolding with_union with_union_at with_union_arms with_union_of
   union_sound s laying line arms name out sound more r few h =
-      let extent : Extent = arms_extent at.types at.extents no_extent arms in
-      let is : IsExtent extent = arms_is_extent at.types at.extents no_extent arms extents no_extent_is in
+      let extent : Extent = union_extent at.types arms in
+      let is : IsExtent extent = union_is_extent at.types arms in
       let offset : ℕ = round_up_to extent.align laying.end in
       let u = if_ok (is_new_union at laying name) (with_union_at at laying line arms name extent) (refusal.NoDecl line) out h in
       let a = ok_then (within_limits line laying.fields (offset + extent.bytes)) (with_union_arms at laying arms name offset extent) out u in

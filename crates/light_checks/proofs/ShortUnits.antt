@@ -162,23 +162,14 @@ params_readable : (ps : List Param) → IsReadable (params_words ps) → All Has
 params_readable [] r = All-nil HasReadableType
 params_readable (p ∷ ps) r = let b = both_readable (param_words p) (more_params_words ps) r in All-cons HasReadableType p ps (param_readable p b.0) (more_params_readable ps b.1)
 
-head_params : (h : Head) → IsReadable (head_words h) → IsReadable (params_words h.params)
+head_params : (h : Head) → IsReadable (head_words h) → All HasReadableType h.params
 head_params h r =
     let inner = written_void_words h.written_void ++ params_words h.params in
     let a = (both_readable (result_words h.result) (stars_words h.stars ++ (a_name h.name ++ in_parentheses inner)) r).1 in
     let b = (both_readable (stars_words h.stars) (a_name h.name ++ in_parentheses inner) a).1 in
     let c = (both_readable (a_name h.name) (in_parentheses inner) b).1 in
     let d = (both_readable inner (a_sign sign.ParenClose) (both_readable (a_sign sign.ParenOpen) (inner ++ a_sign sign.ParenClose) c).1).0 in
-    (both_readable (written_void_words h.written_void) (params_words h.params) d).1
-
--- each parameter takes a word
-more_params_few : (ps : List Param) → length ps ≤ length (more_params_words ps)
-more_params_few [] = omega arith
-more_params_few (p ∷ ps) = omega (arith, length-append (a_sign sign.Comma ++ param_words p) (more_params_words ps), length-append (a_sign sign.Comma) (param_words p), more_params_few ps)
-
-params_few : (ps : List Param) → length ps ≤ length (params_words ps)
-params_few [] = omega arith
-params_few (p ∷ ps) = omega (arith, length-append (param_words p) (more_params_words ps), length-append (type_words p.type_name) (a_name p.name), more_params_few ps)
+    params_readable h.params (both_readable (written_void_words h.written_void) (params_words h.params) d).1
 
 head_result : (h : Head) → IsReadable (head_words h) → IsReadable (result_words h.result ++ stars_words h.stars)
 head_result h r =
@@ -211,8 +202,24 @@ locals_readable f s =
     let front = (short_both ls (ss ++ a_sign sign.BraceClose) lp sp inside).0 in
     All-weaker (λ l. IsShort (local_words l) (local_words l ∷ [])) HasReadableLocal local_readable f.locals (short_each local_words (λ l. local_words l ∷ []) f.locals front)
 
+-- each parameter takes a word
+more_params_few : (ps : List Param) → length ps ≤ length (more_params_words ps)
+more_params_few [] = omega arith
+more_params_few (p ∷ ps) = omega (arith, length-append (a_sign sign.Comma ++ param_words p) (more_params_words ps), length-append (a_sign sign.Comma) (param_words p), more_params_few ps)
+
+params_few : (ps : List Param) → length ps ≤ length (params_words ps)
+params_few [] = omega arith
+params_few (p ∷ ps) = omega (arith, length-append (param_words p) (more_params_words ps), length-append (type_words p.type_name) (a_name p.name), more_params_few ps)
+
+head_few : (h : Head) → IsReadable (head_words h) → length h.params ≤ 1000
+head_few h r =
+    let inner = written_void_words h.written_void ++ params_words h.params in
+    let behind = a_name h.name ++ in_parentheses inner in
+    omega (arith, r.words, length-append (result_words h.result) (stars_words h.stars ++ behind), length-append (stars_words h.stars) behind, length-append (a_name h.name) (in_parentheses inner),
+    length-append (a_sign sign.ParenOpen) (inner ++ a_sign sign.ParenClose), length-append inner (a_sign sign.ParenClose), length-append (written_void_words h.written_void) (params_words h.params), params_few h.params)
+
 function_readable : (f : Function) → IsShortFunction f → HasReadable f
-function_readable f s = record { params = params_readable f.head.params (head_params f.head (head_readable f s)); locals = locals_readable f s }
+function_readable f s = record { params = head_params f.head (head_readable f s); locals = locals_readable f s }
 
 -- where the statements of a function stand
 pub context_within : (u : TextUnit) (t : Table) (f : Function) → IsShortUnit u → layout u ≡ Ok t → Contains u.items (item.Function f) → Stands t f → IsContext (context_of t f)
@@ -256,23 +263,14 @@ functions_all P (item.Function f ∷ xs) each =
     All-cons P f (functions_of xs) (each f (0, omega arith, refl)) (functions_all P xs (λ g c. each g (behind (item.Function g) (item.Function f) xs c)))
 functions_all P (item.Prototype h ∷ xs) each = functions_all P xs (λ g c. each g (behind (item.Function g) (item.Prototype h) xs c))
 
--- what calls see of the parameters of a short function
-signature_within : (t : Table) (g : Function) → IsTable t → IsShortFunction g → AreShapes (seen_shapes (parameter_shapes t g.head.params) g.head)
-signature_within t g table short =
-    let words = head_params g.head (head_readable g short) in
-    let w = words.words in
-    let few : length g.head.params ≤ 1000 = omega (arith, params_few g.head.params) in
-    seen_are t table.sizes g.head few (params_readable g.head.params words)
-
 -- where the bodies of a text stand
-pub home_within : (u : TextUnit) (t : Table) (f : Function) (r : Returned) → IsShortUnit u → layout u ≡ Ok t → Contains u.items (item.Function f) → result_of t f.head ≡ Some r
-    → IsHome (record { functions = (text_of t u.items).functions; result = r })
+pub home_within : (u : TextUnit) (t : Table) (f : Function) (r : Returned) → IsShortUnit u → layout u ≡ Ok t → Contains u.items (item.Function f) → result_of t f.head ≡ Some r → IsHome (record { functions = (text_of t u.items).functions; result = r })
 unfolding text_of signature_of result_of
 home_within u t f r short h in' found =
     let table = table_within u t short h in
     record {
       functions = All-map (λ (s : Signature). AreShapes s.params) (signature_of t) (functions_of u.items)
           (functions_all (λ (g : Function). AreShapes (seen_shapes (parameter_shapes t g.head.params) g.head)) u.items
-          (λ g c. signature_within t g table (function_short u g short c)));
+          (λ g c. let r = head_readable g (function_short u g short c) in seen_are t table.sizes g.head (head_params g.head r) (head_few g.head r)));
       result = result_by_is t f.head.result f.head.stars r table.sizes (head_result f.head (head_readable f (function_short u f short in'))) found;
     }

@@ -1,4 +1,4 @@
--- A short unit is refused only for its heads, its declarations, its prototypes, or what no rule derives.
+-- A short unit is refused only for its heads, its declarations, too many slots, its prototypes, or what no rule derives.
 use Rattle.std.proofs.Common.{◌≡◌, ℕ, Bool, true, false, not, List, [], ◌∷◌, ◌++◌, length, Option, Some, None, Result, Ok, Err, if◌then◌else◌, Contains, refl, sym, ap, ◌∙◌, arith}
 use Rattle.c_tree.specs.declared.items.Function.{Function}
 use Rattle.c_tree.specs.declared.items.Item.{Item}
@@ -22,7 +22,7 @@ use Rattle.light_checks.proofs.ShortUnits.{behind}
 front : (x : Item) (xs : List Item) → Contains (x ∷ xs) x
 front x xs = (0, omega arith, refl)
 
-module _ (u : TextUnit) (t : Table) (short : IsShortUnit u) (laid : layout u ≡ Ok t) where
+module _ (u : TextUnit) (t : Table) (short : IsShortUnit u) (table : layout u ≡ Ok t) where
   abbrev text : Text
   text = text_of t u.items
 
@@ -31,10 +31,10 @@ module _ (u : TextUnit) (t : Table) (short : IsShortUnit u) (laid : layout u ≡
   declared_refused f r e in' few found h = by (wrong_declaration (locals_of f) (slot_shapes t f) f) refl h
     where
       by : (o : Option ℕ) → wrong_declaration (locals_of f) (slot_shapes t f) f ≡ o → check_declared text f r (context_of t f) o ≡ Err e → IsRuleFault u t e
-      by (Some line) k h = declaration f line in' k (sym (fault_same (NoRule line) e h))
       by None k h =
-          let is : IsFunctionOf u t f r = record { short = short; table = laid; function = in'; stands = record { few = few; stands = k }; result = found } in
+          let is : IsFunctionOf u t f r = record { short = short; table = table; function = in'; stands = record { few = few; stands = k }; result = found } in
           unruled f r in' found (function_tells u t f r is e h)
+      by (Some line) k h = declaration f line in' k (sym (fault_same (NoRule line) e h))
 
   result_refused : (f : Function) (e : Fault) → Contains u.items (item.Function f) → is_over f ≡ false → check_result text f (result_of t f.head) (context_of t f) ≡ Err e → IsRuleFault u t e
   result_refused f e in' few h = by (result_of t f.head) refl h

@@ -7,6 +7,7 @@ ghost use Rattle.deputy_rules.specs.Heads as spec;
 ghost use Rattle.deputy_types.specs.Options.{and_then};
 ghost use Rattle.deputy_types.specs.Siblings.{no_siblings, with_sibling};
 
+use crate::head_parameters::seen_shapes;
 use c_tree::{Base, Function, Head, Local, Param, ResultBase, Star, TypeName};
 use checked_tree::Shape;
 use dep_infer::is_automatic;
@@ -265,7 +266,8 @@ pub(crate) fn signature_of(
 ) -> Result<Signature, Memory>
     ensures { IfOk result (λ s. s ≡ spec.signature_of table.now f.now) }
 {
-    let params = parameter_shapes(alloc, table, f.head.params.as_slice())?;
+    let shapes = parameter_shapes(alloc, table, f.head.params.as_slice())?;
+    let params = seen_shapes(alloc, shapes, &f.head)?;
     let returned = result_of(alloc, table, &f.head)?;
     Ok(Signature {
         name: f.head.name,

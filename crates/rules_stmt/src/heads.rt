@@ -3,15 +3,15 @@ ghost use Rattle.std.specs.Prelude.{◌≡◌, ◌&&◌, ◌<◌, ◌^◌, lengt
 ghost use Rattle.deputy_rules.specs.Agreement as agreement;
 ghost use Rattle.deputy_rules.specs.Heads as spec;
 
-use crate::agreement::{agree, parameter_place};
+use crate::agreement::agree;
 use crate::declared::result_of;
+use crate::head_parameters::is_declared;
 use crate::texts::Text;
 use c_tree::{Function, Head, Local, Param};
 use checked_tree::Shape;
 use dep_infer::LocalTable;
 use deputy_types::{NameList, kernel_named};
 use sd_base::{Memory, Name};
-use sqlite_items::at;
 use std::alloc::Global;
 
 /// Whether a head agrees with the first head of its name.
@@ -80,17 +80,6 @@ pub(crate) fn function_stands(
     }
 }
 
-/// Whether the i-th shape is there.
-fn is_declared(shapes: &[Option<Shape>], i: usize) -> bool
-    ensures { result ≡ spec.is_declared shapes.now i }
-{
-    match at(shapes, i) {
-        Some(Some(_)) => true,
-        Some(None) => false,
-        None => false,
-    }
-}
-
 /// Whether the i-th parameter or local stands: it is the first that has its name, and its shape is derived.
 #[tactic(auto, unfolding(deputy_rules::specs::Heads::declaration_stands))]
 fn declaration_stands(locals: &LocalTable, shapes: &[Option<Shape>], i: usize, name: &Name) -> bool
@@ -144,47 +133,4 @@ pub(crate) fn wrong_declaration(
         Some(line) => Some(line),
         None => wrong_local(locals, shapes, params.len(), f.locals.as_slice()),
     }
-}
-
-/// Whether a parameter of a prototype stands likewise.
-#[tactic(auto, unfolding(deputy_rules::specs::Heads::prototype_parameter_stands))]
-fn prototype_parameter_stands(
-    params: &[Param],
-    shapes: &[Option<Shape>],
-    i: usize,
-    name: &Name,
-) -> bool
-    ensures { result ≡ spec.prototype_parameter_stands params.now shapes.now i name.now }
-{
-    is_place(parameter_place(params, name), i) && is_declared(shapes, i)
-}
-
-/// Whether a place is this one.
-fn is_place(place: Option<usize>, i: usize) -> bool
-    ensures { result ≡ agreement.same_place place (Some i) }
-{
-    match place {
-        Some(k) => k == i,
-        None => false,
-    }
-}
-
-/// The line of the first parameter of a prototype that does not stand, by the shapes of its parameters.
-#[tactic(auto, unfolding(deputy_rules::specs::Heads::wrong_in_prototype))]
-pub(crate) fn wrong_in_prototype(shapes: &[Option<Shape>], h: &Head) -> Option<u32>
-    ensures { result ≡ spec.wrong_in_prototype shapes.now h.now }
-{
-    wrong_prototype_parameter(h.params.as_slice(), shapes)
-}
-
-/// The same of its parameters.
-fn wrong_prototype_parameter(params: &[Param], shapes: &[Option<Shape>]) -> Option<u32>
-    ensures { result ≡ spec.wrong_prototype_parameter params.now shapes.now 0 params.now }
-{
-    for (i, param) in params.iter().enumerate() {
-        if !prototype_parameter_stands(params, shapes, i, &param.name) {
-            return Some(param.line);
-        }
-    }
-    None
 }

@@ -13,6 +13,7 @@ mod declared;
 mod first_heads;
 mod functions;
 mod handlers;
+mod head_parameters;
 mod heads;
 mod kernel;
 mod kernel_rows;

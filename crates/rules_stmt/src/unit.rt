@@ -10,7 +10,8 @@ ghost use Rattle.rules_stmt.specs.Units.{IsChecked, IsLaidOut, IsShortItem, Step
 
 use crate::actions::Home;
 use crate::declared::{Shapes, parameter_shapes, result_of, slot_shapes};
-use crate::heads::{function_stands, head_stands, wrong_declaration, wrong_in_prototype};
+use crate::head_parameters::wrong_in_head;
+use crate::heads::{function_stands, head_stands, wrong_declaration};
 use crate::results::{result_scalar, shapes_of};
 use crate::shape_copies::{copy_blocks, copy_shapes, copy_structs};
 use crate::stmts::check_each;
@@ -138,7 +139,7 @@ fn wrong_prototype(alloc: Global, text: &Text<'_>, h: &Head) -> Result<Option<u3
 {
     if head_stands(alloc, text, h)? {
         let shapes = parameter_shapes(alloc, text.table, h.params.as_slice())?;
-        Ok(wrong_in_prototype(shapes.as_slice(), h))
+        Ok(wrong_in_head(shapes.as_slice(), h))
     } else {
         Ok(Some(h.line))
     }

@@ -7,34 +7,33 @@ use super::checks::write_checks;
 use super::forms::{write_form, write_scalar};
 use super::shapes::{write_offsets, write_shape, write_table};
 use super::slots::slot_names;
-use c_decl::read_unit;
-use c_token::{ReadRefusal, tokens};
 use c_tree::{Function, Item, Unit};
 use check_numbering::RuleRefusal;
 use checked_tree::{CheckedFn, CheckedUnit};
-use deputy_types::{TypeRefusal, TypeTable, layouts};
+use deputy_types::{TypeRefusal, layouts};
+use driver_front::{DriverRefusal, read_driver};
 use rules_stmt::check_unit;
 use std::alloc::{AllocError, Global};
 use std::fmt::Write;
 
-/// What becomes of a text.
+/// What becomes of a text. What `accept` does not serve yet is looked at too.
 #[derive(Drop)]
-pub enum Outcome {
-    Unread(ReadRefusal),
+enum Outcome {
+    Unread(DriverRefusal),
     Undeclared(TypeRefusal),
     Underived(RuleRefusal),
     Checked(Unit, CheckedUnit),
 }
 
 /// The unit of a text.
-fn unit_of(alloc: Global, text: &[u8]) -> Result<Unit, ReadRefusal>
+fn unit_of(alloc: Global, text: &[u8]) -> Result<Unit, DriverRefusal>
     ensures { IfOk result (λ unit. IsShortUnit unit) }
 {
     if text.len() > 1_048_576 {
-        return Err(ReadRefusal::Memory);
+        return Err(DriverRefusal::Memory);
     }
-    let words = tokens(alloc, text)?;
-    read_unit(alloc, words.as_slice())
+    let unit = read_driver(alloc, text);
+    unit
 }
 
 fn checked(alloc: Global, unit: Unit) -> Outcome
@@ -50,7 +49,7 @@ fn checked(alloc: Global, unit: Unit) -> Outcome
     }
 }
 
-pub fn outcome_of(alloc: Global, text: &str) -> Outcome {
+fn outcome_of(alloc: Global, text: &str) -> Outcome {
     match unit_of(alloc, text.as_bytes()) {
         Ok(unit) => checked(alloc, unit),
         Err(refusal) => Outcome::Unread(refusal),
@@ -190,10 +189,10 @@ pub fn offsets(alloc: Global, text: &str) -> Result<String, AllocError> {
 pub fn verdict(alloc: Global, text: &str) -> Result<String, AllocError> {
     let mut out = String::new(alloc);
     match outcome_of(alloc, text) {
-        Outcome::Unread(refusal) => write!(out, "{refusal:?}")?,
-        Outcome::Undeclared(refusal) => write!(out, "{refusal:?}")?,
-        Outcome::Underived(refusal) => write!(out, "{refusal:?}")?,
-        Outcome::Checked(_, _) => out.push_str("accepted")?,
+        Outcome::Unread(refusal) => writeln!(out, "  {refusal:?}")?,
+        Outcome::Undeclared(refusal) => writeln!(out, "  {refusal:?}")?,
+        Outcome::Underived(refusal) => writeln!(out, "  {refusal:?}")?,
+        Outcome::Checked(_, _) => out.push_str("  accepted\n")?,
     }
     Ok(out)
 }

@@ -1,5 +1,7 @@
 pub mod Numbered
 pub mod Ensuring
+pub mod SumLimits
+pub mod SmallForms
 pub mod Weighing
 pub mod Annotating
 pub mod Reading
@@ -21,5 +23,6 @@ pub mod FoundKeys
 pub mod ShortUnits
 pub mod Refusals
 pub mod Bodies
+pub mod SmallChecks
 pub mod Units
 mod Examples

@@ -7,3 +7,4 @@ pub mod Unruled
 pub mod Weights
 pub mod Within
 pub mod Words
+pub mod SumLimits

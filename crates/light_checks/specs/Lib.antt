@@ -1,5 +1,5 @@
 pub mod Lightness
-pub mod Refused
+pub mod Faults
 pub mod ShortActions
 pub mod ShortUnits
 pub mod Standing

@@ -12,7 +12,7 @@ use Rattle.deputy_types.specs.Table.{Table}
 use Rattle.deputy_types.specs.UnitLayout.{layout}
 use Rattle.light_checks.specs.Standing.{Stands}
 
--- a short unit with this table, and one of its functions, whose declarations stand, with the result that it declares
+-- a function of a short unit with this table, whose declarations stand, and the result that it declares
 pub record IsFunctionOf (u : TextUnit) (t : Table) (f : Function) (r : Returned) : Type 0 where
   pub short : IsShortUnit u
   pub table : layout u ≡ Ok t

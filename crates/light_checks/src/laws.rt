@@ -21,7 +21,7 @@ ghost use Rattle.deputy_rules.specs.Statements.{Home, act, condition, controllin
 ghost use Rattle.deputy_types.specs.Table.{Table};
 ghost use Rattle.deputy_types.specs.UnitLayout.{layout};
 ghost use Rattle.light_checks.specs.Lightness.{IsLightCheck};
-ghost use Rattle.light_checks.specs.Refused.{IsRefused};
+ghost use Rattle.light_checks.specs.Faults.{IsRuleFault};
 ghost use Rattle.light_checks.specs.ShortActions.{HasShortParts};
 ghost use Rattle.light_checks.specs.ShortUnits.{IsFunctionOf, home_of};
 ghost use Rattle.light_checks.specs.Unruled.{Tells, UnruledIn};
@@ -67,8 +67,8 @@ pub fn a_refused_body_has_a_line_without_rule()
     ensures { (u : TextUnit) (t : Table) (f : Function) (r : Returned) (e : Fault) → IsFunctionOf u t f r → check_statements (text_of t u.items) f r (context_of t f) ≡ Err e → Tells (UnruledIn (context_of t f) (home_of u t r) f.body) e }
 {}
 
-/// A short unit is refused only for a function's head, number of slots, result, parameter or local, for a prototype, or on the line of a simple statement or a condition
-/// that no rule derives: never for the weight of a check.
+/// A short unit whose types are laid out is refused only for a head, a parameter or a local that does not stand, for a prototype, for too many slots, or on the line
+/// of a simple statement or a condition that no rule derives: never for the weight of a check.
 pub fn a_refused_unit_has_its_reason()
-    ensures { (u : TextUnit) (t : Table) (e : Fault) → IsShortUnit u → layout u ≡ Ok t → checked t u ≡ Err e → IsRefused u t e }
+    ensures { (u : TextUnit) (t : Table) (e : Fault) → IsShortUnit u → layout u ≡ Ok t → checked t u ≡ Err e → IsRuleFault u t e }
 {}

@@ -1,8 +1,8 @@
 -- What is derived at a line, and then numbered.
 use Rattle.std.proofs.Common.{◌≡◌, ◌≢◌, ℕ, List, [], length, Option, Some, None, Result, Ok, Err, sym, ap, ◌∙◌}
 use Rattle.deputy_rules.specs.declared.asked.Asked.{Asked}
-use Rattle.deputy_rules.specs.declared.derived.Refusal.{Refusal}
-use Rattle.deputy_rules.specs.declared.derived.Refusal.TheVariants as inner
+use Rattle.deputy_rules.specs.declared.derived.DerivingRefusal.{DerivingRefusal}
+use Rattle.deputy_rules.specs.declared.derived.DerivingRefusal.TheVariants as inner
 use Rattle.deputy_rules.specs.Checking.{Fault, NoRule}
 use Rattle.deputy_rules.specs.Context.{Context}
 use Rattle.deputy_rules.specs.Deriving.{Deriving}
@@ -22,13 +22,13 @@ module _ {A : Type 0} (ctx : Context) (line : ℕ) (p : Context → Deriving A) 
   line_derived own new a found has = here _ found ∙ ap (with_numbers line a) has
 
   -- what is derived, and has none
-  pub line_unnumbered : (own : List Asked) (a : A) (r : Refusal) (e : RuleRefusal) → e ≡ refused_at line r → p (statement_context ctx line b) [] ≡ Some (a, own)
+  pub line_unnumbered : (own : List Asked) (a : A) (r : DerivingRefusal) (e : RuleRefusal) → e ≡ refused_at line r → p (statement_context ctx line b) [] ≡ Some (a, own)
       → (r ≢ inner.Memory → numbered own b ≡ None) → e ≢ rule.Memory → at_line ctx line p b ≡ Err (fault_in e)
   line_unnumbered own a inner.NoRule e same found heavy there = here _ found ∙ (ap (with_numbers line a) (heavy (λ q. cc)) ∙ ap (λ x. Err (fault_in x)) (sym same))
   line_unnumbered own a inner.Memory e same found heavy there = absurd (there same)
 
   -- what no rule derives
-  pub line_refused : (r : Refusal) (e : RuleRefusal) → e ≡ refused_at line r → (r ≢ inner.Memory → p (statement_context ctx line b) [] ≡ None)
+  pub line_refused : (r : DerivingRefusal) (e : RuleRefusal) → e ≡ refused_at line r → (r ≢ inner.Memory → p (statement_context ctx line b) [] ≡ None)
       → e ≢ rule.Memory → at_line ctx line p b ≡ Err (fault_in e)
   line_refused inner.NoRule e same none there = here None (none (λ q. cc)) ∙ ap (λ x. Err (fault_in x)) (sym same)
   line_refused inner.Memory e same none there = absurd (there same)

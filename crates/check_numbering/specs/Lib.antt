@@ -1,4 +1,4 @@
 pub mod Building
-pub mod Lightness
+pub mod Weighed
 pub mod Outcome
 pub mod Placed

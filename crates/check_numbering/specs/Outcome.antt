@@ -1,7 +1,7 @@
 -- What a function that checks what stands in a text ensures: the outcome of the definition, unless memory is wanting.
 use Rattle.std.specs.Prelude.{◌≡◌, ◌≢◌, ℕ, Result, Ok, Err}
-use Rattle.deputy_rules.specs.declared.derived.Refusal.{Refusal}
-use Rattle.deputy_rules.specs.declared.derived.Refusal.TheVariants as inner
+use Rattle.deputy_rules.specs.declared.derived.DerivingRefusal.{DerivingRefusal}
+use Rattle.deputy_rules.specs.declared.derived.DerivingRefusal.TheVariants as inner
 use Rattle.deputy_rules.specs.Checking.{Fault, NoRule, Limit}
 use Rattle.check_numbering.specs.declared.refusal.RuleRefusal.{RuleRefusal}
 use Rattle.check_numbering.specs.declared.refusal.RuleRefusal.TheVariants as rule
@@ -13,7 +13,7 @@ fault_in (rule.Limit line kind) = Limit line kind
 fault_in rule.Memory = NoRule 0
 
 -- the refusal of what stands on a line
-abbrev pub refused_at : ℕ → Refusal → RuleRefusal
+abbrev pub refused_at : ℕ → DerivingRefusal → RuleRefusal
 refused_at line inner.NoRule = rule.NoRule line
 refused_at line inner.Memory = rule.Memory
 

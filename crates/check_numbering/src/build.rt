@@ -12,7 +12,7 @@ use crate::refusal::{RuleRefusal, at_line};
 use crate::{Atoms, number_checks};
 use c_tree::Expr;
 use checked_tree::{Check, CheckedExpr};
-use deputy_rules::{Asked, Refusal};
+use deputy_rules::{Asked, DerivingRefusal};
 use rules_expr::{Context, expression};
 use sqlite_items::{Boxed, Items};
 use std::alloc::Global;
@@ -43,7 +43,7 @@ fn expression_at(
     first: usize,
     e: &Expr,
     own: &mut Items<Asked>,
-) -> Result<Boxed<CheckedExpr>, Refusal>
+) -> Result<Boxed<CheckedExpr>, DerivingRefusal>
     requires { first < 2 ^ 63 }
     ensures { Derives (spec.expression (placed ctx.now ctx.now.line first) e.now own.old) result own.new }
 {

@@ -7,12 +7,12 @@ use crate::Atoms;
 use crate::forming::{difference, single, whole};
 use checked_tree::{Cond, Part, Sum};
 use dep_expr::Ineq;
-use deputy_rules::{AskedCond, Refusal};
+use deputy_rules::{AskedCond, DerivingRefusal};
 use std::alloc::Global;
 
 /// The left sum is at most the right one.
 #[tactic(auto, unfolding(deputy_rules::specs::Numbering::at_most))]
-fn at_most(alloc: Global, atoms: &mut Atoms, left: &Sum, right: &Sum) -> Result<Cond, Refusal>
+fn at_most(alloc: Global, atoms: &mut Atoms, left: &Sum, right: &Sum) -> Result<Cond, DerivingRefusal>
     ensures { Leaves (spec.at_most left.now right.now atoms.old) result atoms.new }
 {
     let left = difference(alloc, atoms, left, right)?;
@@ -27,7 +27,7 @@ fn guarded(
     left: &Sum,
     right: &Sum,
     guard: &Sum,
-) -> Result<Cond, Refusal>
+) -> Result<Cond, DerivingRefusal>
     ensures { Leaves (spec.guarded left.now right.now guard.now atoms.old) result atoms.new }
 {
     let left = difference(alloc, atoms, left, right)?;
@@ -47,7 +47,7 @@ fn aligned(
     low: &Sum,
     size: u32,
     guard: &Sum,
-) -> Result<Cond, Refusal>
+) -> Result<Cond, DerivingRefusal>
     ensures { Leaves (spec.aligned value.now low.now size guard.now atoms.old) result atoms.new }
 {
     let gap = difference(alloc, atoms, value, low)?;
@@ -57,7 +57,7 @@ fn aligned(
 
 /// The byte at the address is not 0, or the new byte is 0 where there is one.
 #[tactic(auto, unfolding(deputy_rules::specs::Numbering::term))]
-fn term(alloc: Global, atoms: &mut Atoms, at: &Sum, new: Option<&Part>) -> Result<Cond, Refusal>
+fn term(alloc: Global, atoms: &mut Atoms, at: &Sum, new: Option<&Part>) -> Result<Cond, DerivingRefusal>
     ensures { Leaves (spec.term at.now (option_copied new.entry) atoms.old) result atoms.new }
 {
     let at = whole(alloc, atoms, at)?;
@@ -79,7 +79,7 @@ fn kept(
     new: &Part,
     at: &Sum,
     size: u32,
-) -> Result<Cond, Refusal>
+) -> Result<Cond, DerivingRefusal>
     ensures { Leaves (spec.kept old.now new.now at.now size atoms.old) result atoms.new }
 {
     let new = single(alloc, atoms, new)?;
@@ -90,7 +90,7 @@ fn kept(
 
 /// The number is not 0.
 #[tactic(auto, unfolding(deputy_rules::specs::Numbering::non_zero))]
-fn non_zero(alloc: Global, atoms: &mut Atoms, part: &Part) -> Result<Cond, Refusal>
+fn non_zero(alloc: Global, atoms: &mut Atoms, part: &Part) -> Result<Cond, DerivingRefusal>
     ensures { Leaves (spec.non_zero part.now atoms.old) result atoms.new }
 {
     let number = single(alloc, atoms, part)?;
@@ -99,7 +99,7 @@ fn non_zero(alloc: Global, atoms: &mut Atoms, part: &Part) -> Result<Cond, Refus
 
 /// The number is this one.
 #[tactic(auto, unfolding(deputy_rules::specs::Numbering::equal))]
-fn equal(alloc: Global, atoms: &mut Atoms, part: &Part, z: i64) -> Result<Cond, Refusal>
+fn equal(alloc: Global, atoms: &mut Atoms, part: &Part, z: i64) -> Result<Cond, DerivingRefusal>
     ensures { Leaves (spec.equal part.now z atoms.old) result atoms.new }
 {
     let number = single(alloc, atoms, part)?;
@@ -112,7 +112,7 @@ pub(crate) fn condition(
     alloc: Global,
     atoms: &mut Atoms,
     asked: &AskedCond,
-) -> Result<Cond, Refusal>
+) -> Result<Cond, DerivingRefusal>
     ensures { Leaves (spec.conditioned asked.now atoms.old) result atoms.new }
 {
     match asked {

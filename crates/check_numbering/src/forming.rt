@@ -1,14 +1,14 @@
 //! `Forming`: a linear form that is being added up from the parts of sums, and how far it weighs.
 ghost use Rattle.std.specs.Prelude.{◌≡◌, ◌≤◌, ◌^◌, ◌*ℤ◌, unsigned_abs, IfOk};
 ghost use Rattle.dep_expr.specs.Merged.{merged};
-ghost use Rattle.deputy_rules.specs.Deriving.{Gives};
+ghost use Rattle.deputy_rules.specs.Deriving.{Yields};
 ghost use Rattle.deputy_rules.specs.Numbering as spec;
 ghost use Rattle.deputy_rules.specs.Numbering.{Leaves};
 
 use crate::Atoms;
 use checked_tree::{Part, Sum};
 use dep_expr::Lin;
-use deputy_rules::Refusal;
+use deputy_rules::DerivingRefusal;
 use sd_base::Memory;
 use std::alloc::Global;
 use std::marker::Model;
@@ -29,13 +29,13 @@ pub(crate) struct Forming {
 
 impl Model for Forming {
     ghost use Rattle.deputy_rules.specs.Numbering.{Forming};
-    ghost use Rattle.check_numbering.specs.Lightness.{IsLight};
+    ghost use Rattle.check_numbering.specs.Weighed.{IsWeighed};
 
     ghost Value = { Forming };
 
     ghost view = { λ f. record { form = f.form; coefficients = f.coefficients; constants = f.constants } };
 
-    ghost invariant = { λ f. IsLight (record { form = f.form; coefficients = f.coefficients; constants = f.constants }) };
+    ghost invariant = { λ f. IsWeighed (record { form = f.form; coefficients = f.coefficients; constants = f.constants }) };
 }
 
 impl Forming {
@@ -52,13 +52,13 @@ impl Forming {
 
     /// A number more. `NoRule` where the form is not light then.
     #[tactic(auto, unfolding(deputy_rules::specs::Numbering::with_number))]
-    fn with_number(mut self, z: i128) -> Result<Forming, Refusal>
+    fn with_number(mut self, z: i128) -> Result<Forming, DerivingRefusal>
         requires { unsigned_abs z ≤ 2 ^ 126 }
-        ensures { Gives (spec.with_number z self) result }
+        ensures { Yields (spec.with_number z self) result }
     {
         let constants = self.constants + z.unsigned_abs();
         if constants >= CONSTANTS {
-            return Err(Refusal::NoRule);
+            return Err(DerivingRefusal::NoRule);
         }
         self.form.add_number(z);
         self.constants = constants;
@@ -67,13 +67,13 @@ impl Forming {
 
     /// So many times an atom more. `NoRule` where the form is not light then.
     #[tactic(auto, unfolding(deputy_rules::specs::Numbering::with_term))]
-    fn with_term(mut self, k: i128, atom: usize) -> Result<Forming, Refusal>
+    fn with_term(mut self, k: i128, atom: usize) -> Result<Forming, DerivingRefusal>
         requires { unsigned_abs k ≤ 2 ^ 63 }
-        ensures { Gives (spec.with_term k atom self) result }
+        ensures { Yields (spec.with_term k atom self) result }
     {
         let coefficients = self.coefficients + k.unsigned_abs();
         if coefficients >= COEFFICIENTS {
-            return Err(Refusal::NoRule);
+            return Err(DerivingRefusal::NoRule);
         }
         self.form.add_atom(k as i64, atom)?;
         self.coefficients = coefficients;
@@ -106,7 +106,7 @@ fn product(times: i64, value: i64) -> i128
 
 /// One part more, of the left side or of the right one.
 #[tactic(auto, unfolding(deputy_rules::specs::Numbering::with_part))]
-fn with_part(atoms: &mut Atoms, right: bool, form: Forming, part: &Part) -> Result<Forming, Refusal>
+fn with_part(atoms: &mut Atoms, right: bool, form: Forming, part: &Part) -> Result<Forming, DerivingRefusal>
     ensures { Leaves (spec.with_part right part.now form atoms.old) result atoms.new }
 {
     match part {
@@ -124,7 +124,7 @@ fn with_parts(
     right: bool,
     form: Forming,
     parts: &[Part],
-) -> Result<Forming, Refusal>
+) -> Result<Forming, DerivingRefusal>
     ensures { Leaves (spec.with_parts right parts.now form atoms.old) result atoms.new }
 {
     let mut form = form;
@@ -141,7 +141,7 @@ pub(crate) fn difference(
     atoms: &mut Atoms,
     left: &Sum,
     right: &Sum,
-) -> Result<Lin, Refusal>
+) -> Result<Lin, DerivingRefusal>
     ensures { Leaves (spec.difference left.now right.now atoms.old) result atoms.new }
 {
     let form = with_parts(atoms, false, Forming::new(alloc), left.parts.as_slice())?;
@@ -152,7 +152,7 @@ pub(crate) fn difference(
 
 /// One sum, in merged form.
 #[tactic(auto, unfolding(deputy_rules::specs::Numbering::whole))]
-pub(crate) fn whole(alloc: Global, atoms: &mut Atoms, sum: &Sum) -> Result<Lin, Refusal>
+pub(crate) fn whole(alloc: Global, atoms: &mut Atoms, sum: &Sum) -> Result<Lin, DerivingRefusal>
     ensures { Leaves (spec.whole sum.now atoms.old) result atoms.new }
 {
     let form = with_parts(atoms, false, Forming::new(alloc), sum.parts.as_slice())?;
@@ -162,7 +162,7 @@ pub(crate) fn whole(alloc: Global, atoms: &mut Atoms, sum: &Sum) -> Result<Lin, 
 
 /// One part, in merged form.
 #[tactic(auto, unfolding(deputy_rules::specs::Numbering::single))]
-pub(crate) fn single(alloc: Global, atoms: &mut Atoms, part: &Part) -> Result<Lin, Refusal>
+pub(crate) fn single(alloc: Global, atoms: &mut Atoms, part: &Part) -> Result<Lin, DerivingRefusal>
     ensures { Leaves (spec.single part.now atoms.old) result atoms.new }
 {
     let form = with_part(atoms, false, Forming::new(alloc), part)?;

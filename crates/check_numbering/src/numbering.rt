@@ -5,7 +5,7 @@ ghost use Rattle.deputy_rules.specs.Numbering.{Numbers};
 use crate::Atoms;
 use crate::conditions::condition;
 use checked_tree::Check;
-use deputy_rules::{Asked, Refusal};
+use deputy_rules::{Asked, DerivingRefusal};
 use sqlite_items::Items;
 use std::alloc::Global;
 
@@ -16,7 +16,7 @@ fn with_check(
     atoms: &mut Atoms,
     checks: &mut Items<Check>,
     asked: &Asked,
-) -> Result<(), Refusal>
+) -> Result<(), DerivingRefusal>
     ensures { Numbers (spec.with_check (record { atoms = atoms.old; checks = checks.old }) asked.now) result (record { atoms = atoms.new; checks = checks.new }) }
 {
     let cond = condition(alloc, atoms, &asked.cond)?;
@@ -39,7 +39,7 @@ pub fn number_checks(
     atoms: &mut Atoms,
     checks: &mut Items<Check>,
     asked: &[Asked],
-) -> Result<(), Refusal>
+) -> Result<(), DerivingRefusal>
     ensures { Numbers (spec.numbered asked.now (record { atoms = atoms.old; checks = checks.old })) result (record { atoms = atoms.new; checks = checks.new }) }
 {
     for one in asked {

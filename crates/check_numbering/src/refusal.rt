@@ -3,7 +3,7 @@ ghost use Rattle.std.specs.Prelude.{◌≡◌};
 ghost use Rattle.check_numbering.specs.Outcome.{refused_at};
 
 use c_tree::LimitKind;
-use deputy_rules::Refusal;
+use deputy_rules::DerivingRefusal;
 use std::alloc::AllocError;
 
 /// Why a text is not derived. Of two refusals the one that stands earlier in the text is given.
@@ -29,11 +29,11 @@ impl From<AllocError> for RuleRefusal {
 }
 
 /// A refusal of what stands on a line.
-pub fn at_line(line: u32, refusal: Refusal) -> RuleRefusal
+pub fn at_line(line: u32, refusal: DerivingRefusal) -> RuleRefusal
     ensures { result ≡ refused_at line refusal }
 {
     match refusal {
-        Refusal::NoRule => RuleRefusal::NoRule(line),
-        Refusal::Memory => RuleRefusal::Memory,
+        DerivingRefusal::NoRule => RuleRefusal::NoRule(line),
+        DerivingRefusal::Memory => RuleRefusal::Memory,
     }
 }

@@ -1,3 +1,8 @@
+pub mod NumberRanges
+pub mod BareValues
+pub mod SumsHave
+pub mod EdgesHave
+pub mod NamesHave
 pub mod StatementForms
 pub mod RuleExamples
 pub mod StatementExamples

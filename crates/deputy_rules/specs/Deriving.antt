@@ -3,8 +3,8 @@ use Rattle.std.specs.Prelude.{◌≡◌, ◌≢◌, ℕ, ◌+◌, List, [], ◌�
 use Rattle.sd_base.specs.declared.kinds.CheckKind.{CheckKind}
 use Rattle.deputy_rules.specs.declared.asked.Asked.{Asked}
 use Rattle.deputy_rules.specs.declared.asked.AskedCond.{AskedCond}
-use Rattle.deputy_rules.specs.declared.derived.Refusal.{Refusal}
-use Rattle.deputy_rules.specs.declared.derived.Refusal.TheVariants.{Memory}
+use Rattle.deputy_rules.specs.declared.derived.DerivingRefusal.{DerivingRefusal}
+use Rattle.deputy_rules.specs.declared.derived.DerivingRefusal.TheVariants.{Memory}
 use Rattle.deputy_rules.specs.Context.{Context}
 use Rattle.deputy_types.specs.Options.{and_then}
 
@@ -37,11 +37,11 @@ abbrev pub ask : Context → CheckKind → AskedCond → Deriving ℕ
 ask ctx kind cond = λ s. Some (ctx.first + (length s + 1), s ++ (record { line = ctx.line; kind = kind; cond = cond }) ∷ [])
 
 -- what a function that derives ensures: the outcome, unless memory is wanting
-abbrev pub Derives : {A : Type 0} → Option (A × List Asked) → Result A Refusal → List Asked → Type 0
+abbrev pub Derives : {A : Type 0} → Option (A × List Asked) → Result A DerivingRefusal → List Asked → Type 0
 Derives outcome (Ok a) new = outcome ≡ Some (a, new)
 Derives outcome (Err e) new = e ≢ Memory → outcome ≡ None
 
 -- the same of a function that asks for nothing
-abbrev pub Gives : {A : Type 0} → Option A → Result A Refusal → Type 0
-Gives outcome (Ok a) = outcome ≡ Some a
-Gives outcome (Err e) = e ≢ Memory → outcome ≡ None
+abbrev pub Yields : {A : Type 0} → Option A → Result A DerivingRefusal → Type 0
+Yields outcome (Ok a) = outcome ≡ Some a
+Yields outcome (Err e) = e ≢ Memory → outcome ≡ None

@@ -20,13 +20,13 @@ use Rattle.deputy_rules.specs.declared.signature.Returned.{Returned}
 use Rattle.deputy_rules.specs.declared.signature.Returned.TheVariants as returned
 use Rattle.deputy_rules.specs.Checking.{Fault, NoRule, Limit, in_turn}
 use Rattle.deputy_rules.specs.Context.{Context}
-use Rattle.deputy_rules.specs.Heads.{Text, signature_of, parameter_shapes, slot_shapes, result_of, head_stands, function_stands, is_over, wrong_declaration, wrong_in_head}
+use Rattle.deputy_rules.specs.Heads.{SeenText, signature_of, parameter_shapes, slot_shapes, result_of, head_stands, function_stands, is_over, wrong_declaration, wrong_in_head}
 use Rattle.deputy_rules.specs.Numbering.{Numbered}
 use Rattle.deputy_rules.specs.Statements.{check_statement}
 use Rattle.deputy_types.specs.Table.{Table}
 use Rattle.deputy_types.specs.UnitLayout.{functions_of}
 
-unfoldable pub text_of : Table → List Item → Text
+unfoldable pub text_of : Table → List Item → SeenText
 text_of t items = record { table = t; items = items; functions = map (signature_of t) (functions_of items) }
 
 -- how many bytes a pointer that is returned may reach from where it points. Where the number has no place in 32 bits, or is negative, the pointer is null
@@ -78,28 +78,28 @@ finished ctx f r (Ok b) = Ok (checked_function ctx f r b.0 b.1)
 finished ctx f r (Err e) = Err e
 
 -- the statements of a function with this result
-unfoldable pub check_statements : Text → Function → Returned → Context → Result CheckedFn Fault
+unfoldable pub check_statements : SeenText → Function → Returned → Context → Result CheckedFn Fault
 check_statements text f r ctx =
     finished ctx f r (in_turn (map (check_statement ctx (record { functions = text.functions; result = r })) f.body) [] no_checks)
 
 -- its parameters and locals, then its statements
-abbrev pub check_declared : Text → Function → Returned → Context → Option ℕ → Result CheckedFn Fault
+abbrev pub check_declared : SeenText → Function → Returned → Context → Option ℕ → Result CheckedFn Fault
 check_declared text f r ctx (Some line) = Err (NoRule line)
 check_declared text f r ctx None = check_statements text f r ctx
 
-abbrev pub check_result : Text → Function → Option Returned → Context → Result CheckedFn Fault
+abbrev pub check_result : SeenText → Function → Option Returned → Context → Result CheckedFn Fault
 check_result text f None ctx = Err (NoRule f.head.line)
 check_result text f (Some r) ctx = check_declared text f r ctx (wrong_declaration ctx.locals ctx.slots f)
 
 -- the k-th function with a body
-unfoldable pub check_function : Text → ℕ → Function → Result CheckedFn Fault
+unfoldable pub check_function : SeenText → ℕ → Function → Result CheckedFn Fault
 check_function text k f =
     if not (function_stands text k f.head) then Err (NoRule f.head.line)
     else if is_over f then Err (Limit f.head.line Locals)
     else check_result text f (result_of text.table f.head) (context_of text.table f)
 
 -- the line of what does not stand in a prototype
-unfoldable pub wrong_prototype : Text → Head → Option ℕ
+unfoldable pub wrong_prototype : SeenText → Head → Option ℕ
 wrong_prototype text h = if head_stands text h then wrong_in_head (parameter_shapes text.table h.params) h else Some h.line
 
 -- the items in turn, behind the functions that are done
@@ -111,7 +111,7 @@ abbrev pub behind_function : List CheckedFn → Result CheckedFn Fault → (List
 behind_function done (Ok f) rest = rest (done ++ f ∷ [])
 behind_function done (Err e) rest = Err e
 
-abbrev pub check_items : Text → List Item → List CheckedFn → Result (List CheckedFn) Fault
+abbrev pub check_items : SeenText → List Item → List CheckedFn → Result (List CheckedFn) Fault
 check_items text [] done = Ok done
 check_items text (item.Struct s ∷ items) done = check_items text items done
 check_items text (item.Global g ∷ items) done = check_items text items done
@@ -127,5 +127,5 @@ unfoldable pub checked : Table → Unit → Result CheckedUnit Fault
 checked t u = checked_with t (check_items (text_of t u.items) u.items [])
 
 -- the rules derive this checked unit from a text
-abbrev pub Derives : Table → Unit → CheckedUnit → Type 0
-Derives t u c = checked t u ≡ Ok c
+abbrev pub DerivesUnit : Table → Unit → CheckedUnit → Type 0
+DerivesUnit t u c = checked t u ≡ Ok c

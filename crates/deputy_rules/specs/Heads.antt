@@ -128,7 +128,7 @@ unfoldable pub signature_of : Table → Function → Signature
 signature_of t f = record { name = f.head.name; params = seen_shapes (parameter_shapes t f.head.params) f.head; result = result_of t f.head }
 
 -- a text, as its functions see it: its types, its items, and its functions with bodies
-pub record Text : Type 0 where
+pub record SeenText : Type 0 where
   pub table : Table
   pub items : List Item
   pub functions : List Signature
@@ -158,12 +158,12 @@ agrees_with structs None h = true
 agrees_with structs (Some g) h = agree structs g h
 
 -- a head stands: no kernel call and no global has its name, it agrees, and its result is derived
-unfoldable pub head_stands : Text → Head → Bool
+unfoldable pub head_stands : SeenText → Head → Bool
 head_stands text h = is_none (kernel_named h.name) && (is_none (global text.table h.name)
     && (agrees_with text.table.types.structs (first_head text.items h.name) h && is_some (result_of text.table h)))
 
 -- the head of the k-th function with a body stands: none before it has its name
-unfoldable pub function_stands : Text → ℕ → Head → Bool
+unfoldable pub function_stands : SeenText → ℕ → Head → Bool
 function_stands text k h = head_stands text h && same_place (function_number text.functions h.name) (Some k)
 
 -- a function has at most 128 slots

@@ -16,3 +16,5 @@ pub mod Numbering
 pub mod Statements
 pub mod Heads
 pub mod Functions
+pub mod SumValues
+pub mod NameValues

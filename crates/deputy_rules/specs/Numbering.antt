@@ -2,7 +2,7 @@
 -- their first use, in the checks as the rules write them: check by check, within a check the sides in the order in which the condition
 -- is written, a guard behind them, and before the sides are merged. Equal expressions are one atom. Each linear form of a check is merged.
 -- A form is light where the sizes of its coefficients are below 2^62 together, and those of its constants below 2^100. There is no number for
--- what is heavier, which no check of a text within the limits is whose declarations stand: it adds up a few thousand parts, each below 2^60.
+-- what is heavier, which no check of a text within the limits is: it adds up a few thousand parts, each below 2^60.
 use Rattle.std.specs.Prelude.{◌≡◌, ◌≢◌, ℕ, ◌+◌, ◌^◌, ◌&&◌, Bool, true, false, nat_lt, List, [], ◌∷◌, ◌++◌, length, Option, Some, None, option_map, ℤ, pos, ◌*ℤ◌, neg_ℤ, unsigned_abs, if◌then◌else◌, Result, Ok, Err}
 use Rattle.std.specs.List.{position_or_len}
 use Rattle.dep_expr.specs.Linear.{LinearForm, number_form, term_form, plus}
@@ -19,8 +19,8 @@ use Rattle.checked_tree.specs.Codes.{is_same}
 use Rattle.deputy_rules.specs.declared.asked.Asked.{Asked}
 use Rattle.deputy_rules.specs.declared.asked.AskedCond.{AskedCond}
 use Rattle.deputy_rules.specs.declared.asked.AskedCond.TheVariants as asked
-use Rattle.deputy_rules.specs.declared.derived.Refusal.{Refusal}
-use Rattle.deputy_rules.specs.declared.derived.Refusal.TheVariants.{Memory}
+use Rattle.deputy_rules.specs.declared.derived.DerivingRefusal.{DerivingRefusal}
+use Rattle.deputy_rules.specs.declared.derived.DerivingRefusal.TheVariants.{Memory}
 use Rattle.deputy_types.specs.Options.{and_then}
 
 -- the number of an expression: the place of the first atom that is equal to it, or behind all where none is
@@ -140,11 +140,11 @@ numbered [] n = Some n
 numbered (q ∷ qs) n = and_then (with_check n q) (λ more. numbered qs more)
 
 -- what a call that numbers atoms ensures: the outcome, unless memory is wanting
-abbrev pub Leaves : {A S : Type 0} → Option (A × S) → Result A Refusal → S → Type 0
+abbrev pub Leaves : {A S : Type 0} → Option (A × S) → Result A DerivingRefusal → S → Type 0
 Leaves outcome (Ok a) new = outcome ≡ Some (a, new)
 Leaves outcome (Err e) new = e ≢ Memory → outcome ≡ None
 
 -- what a call that numbers checks ensures: the atoms and the checks then, unless memory is wanting
-abbrev pub Numbers : {A : Type 0} → Option Numbered → Result A Refusal → Numbered → Type 0
+abbrev pub Numbers : {A : Type 0} → Option Numbered → Result A DerivingRefusal → Numbered → Type 0
 Numbers outcome (Ok a) new = outcome ≡ Some new
 Numbers outcome (Err e) new = e ≢ Memory → outcome ≡ None

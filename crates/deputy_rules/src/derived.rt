@@ -122,19 +122,19 @@ pub enum Derived {
 
 /// Why a rule gives nothing.
 #[derive(Clone, Copy, PartialEq, Eq, Debug)]
-pub enum Refusal {
+pub enum DerivingRefusal {
     /// No rule derives the expression.
     NoRule,
     /// Memory is wanting.
     Memory,
 }
 
-impl From<AllocError> for Refusal {
-    ghost use Rattle.deputy_rules.specs.declared.derived.Refusal.TheVariants.{Memory};
+impl From<AllocError> for DerivingRefusal {
+    ghost use Rattle.deputy_rules.specs.declared.derived.DerivingRefusal.TheVariants.{Memory};
 
     ghost from_gives = { λ _ e. e ≡ Memory };
 
-    fn from(_: AllocError) -> Refusal {
-        Refusal::Memory
+    fn from(_: AllocError) -> DerivingRefusal {
+        DerivingRefusal::Memory
     }
 }

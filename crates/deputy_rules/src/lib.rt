@@ -8,16 +8,21 @@ mod derived;
 mod families;
 mod handed;
 mod kernel_arguments;
+mod laws;
 mod naming;
 mod signature;
 
 pub use asked::{Asked, AskedCond};
 pub use derived::{
-    ArrayPlace, Derived, FoundArm, Place, Pointed, Refusal, Source, UnionPlace, Value, Whole,
+    ArrayPlace, Derived, FoundArm, Place, Pointed, DerivingRefusal, Source, UnionPlace, Value, Whole,
     Written,
 };
 pub use families::Family;
 pub use handed::{Handed, Passed};
 pub use kernel_arguments::KernelArguments;
+pub use laws::{
+    a_bound_has_its_value_among_slots, a_bound_has_its_value_in_a_struct,
+    a_bound_has_the_value_of_its_annotation,
+};
 pub use naming::{Change, Names, Naming};
 pub use signature::{Returned, Signature};

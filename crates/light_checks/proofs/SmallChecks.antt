@@ -23,7 +23,7 @@ use Rattle.deputy_rules.specs.declared.signature.Returned.{Returned}
 use Rattle.deputy_rules.specs.Checking.{Fault, NoRule, Limit, Checking, with_outcome, afterwards, done, in_turn}
 use Rattle.deputy_rules.specs.Context.{Context}
 use Rattle.deputy_rules.specs.Functions.{text_of, context_of, no_checks, checked_function, finished, check_statements, check_declared, check_result, check_function, wrong_prototype, behind_prototype, behind_function, check_items, checked_with, checked}
-use Rattle.deputy_rules.specs.Heads.{Text, function_stands, is_over, result_of, slot_shapes, wrong_declaration}
+use Rattle.deputy_rules.specs.Heads.{SeenText, function_stands, is_over, result_of, slot_shapes, wrong_declaration}
 use Rattle.deputy_rules.specs.Numbering.{Numbered, numbered}
 use Rattle.deputy_rules.specs.Statements.{Home, numbered_at, with_numbers, simple, condition, single, check_statement, check_body, act, controlling, statement_context}
 use Rattle.deputy_types.specs.Table.{Table}
@@ -145,7 +145,7 @@ IsSmallFn f = All IsSmallCheck f.checks
 same_fn : (a b : CheckedFn) → ◌≡◌ {A = Result CheckedFn Fault} (Ok a) (Ok b) → a ≡ b
 same_fn a b h = cc
 
-module _ (text : Text) where
+module _ (text : SeenText) where
   statements_small : (f : Function) (r : Returned) (ctx : Context) (g : CheckedFn) → check_statements text f r ctx ≡ Ok g → IsSmallFn g
   unfolding check_statements
   statements_small f r ctx g h = by (in_turn (map (check_statement ctx home) f.body) [] no_checks) refl h

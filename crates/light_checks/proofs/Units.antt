@@ -11,7 +11,7 @@ use Rattle.checked_tree.specs.declared.units.CheckedFn.{CheckedFn}
 use Rattle.deputy_rules.specs.declared.signature.Returned.{Returned}
 use Rattle.deputy_rules.specs.Checking.{Fault, NoRule, Limit}
 use Rattle.deputy_rules.specs.Functions.{text_of, context_of, check_declared, check_result, check_function, wrong_prototype, behind_prototype, behind_function, check_items, checked_with, checked}
-use Rattle.deputy_rules.specs.Heads.{Text, function_stands, is_over, result_of, slot_shapes, wrong_declaration}
+use Rattle.deputy_rules.specs.Heads.{SeenText, function_stands, is_over, result_of, slot_shapes, wrong_declaration}
 use Rattle.deputy_types.specs.Table.{Table}
 use Rattle.deputy_types.specs.UnitLayout.{layout}
 use Rattle.light_checks.specs.Faults.{IsRuleFault, head, many_slots, no_result, declaration, prototype, unruled}
@@ -23,7 +23,7 @@ front : (x : Item) (xs : List Item) → Contains (x ∷ xs) x
 front x xs = (0, omega arith, refl)
 
 module _ (u : TextUnit) (t : Table) (short : IsShortUnit u) (table : layout u ≡ Ok t) where
-  abbrev text : Text
+  abbrev text : SeenText
   text = text_of t u.items
 
   declared_refused : (f : Function) (r : Returned) (e : Fault) → Contains u.items (item.Function f) → is_over f ≡ false → result_of t f.head ≡ Some r

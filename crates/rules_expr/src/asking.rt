@@ -3,7 +3,7 @@ ghost use Rattle.deputy_rules.specs.Deriving as spec;
 ghost use Rattle.deputy_rules.specs.Deriving.{Derives};
 
 use crate::Context;
-use deputy_rules::{Asked, AskedCond, Refusal};
+use deputy_rules::{Asked, AskedCond, DerivingRefusal};
 use sd_base::CheckKind;
 use sqlite_items::Items;
 
@@ -14,7 +14,7 @@ pub fn ask(
     kind: CheckKind,
     cond: AskedCond,
     asked: &mut Items<Asked>,
-) -> Result<usize, Refusal>
+) -> Result<usize, DerivingRefusal>
     ensures { Derives (spec.ask ctx.now kind cond asked.old) result asked.new }
 {
     asked.push(Asked {

@@ -6,7 +6,7 @@ ghost use Rattle.checked_tree.specs.declared.expressions.CheckedExpr.TheVariants
 ghost use Rattle.deputy_rules.specs.declared.asked.AskedCond.TheVariants as cond;
 ghost use Rattle.deputy_rules.specs.declared.derived.Value.TheVariants as value;
 ghost use Rattle.deputy_rules.specs.Deriving as asking;
-ghost use Rattle.deputy_rules.specs.Deriving.{Derives, Gives};
+ghost use Rattle.deputy_rules.specs.Deriving.{Derives, Yields};
 ghost use Rattle.deputy_rules.specs.Operators as spec;
 ghost use Rattle.deputy_rules.specs.Sums as sums;
 ghost use Rattle.deputy_types.specs.Types as types;
@@ -21,7 +21,7 @@ use crate::sums::side;
 use crate::values::value_of;
 use c_tree::Binary;
 use checked_tree::{Arithmetic, CheckedExpr, Comparison, Logic, PointerSum, Scalar};
-use deputy_rules::{Asked, AskedCond, Derived, Family, Pointed, Refusal, Value, Whole};
+use deputy_rules::{Asked, AskedCond, Derived, Family, Pointed, DerivingRefusal, Value, Whole};
 use deputy_types::Element;
 use sd_base::CheckKind;
 use sqlite_items::{Boxed, Items};
@@ -94,7 +94,7 @@ fn ask_divisor(
     ctx: &Context<'_>,
     divisor: &Whole,
     asked: &mut Items<Asked>,
-) -> Result<usize, Refusal>
+) -> Result<usize, DerivingRefusal>
     ensures { Derives (asking.ask ctx.now kind.Div (cond.NonZero (sums.side divisor.now)) asked.old) result asked.new }
 {
     let part = side(alloc, divisor)?;
@@ -110,7 +110,7 @@ fn divided(
     left: Whole,
     right: Whole,
     asked: &mut Items<Asked>,
-) -> Result<Derived, Refusal>
+) -> Result<Derived, DerivingRefusal>
     ensures { Derives (spec.divided ctx.now op left right asked.old) result asked.new }
 {
     let id = ask_divisor(alloc, ctx, &right, asked)?;
@@ -174,7 +174,7 @@ fn on_integers(
     left: Whole,
     right: Whole,
     asked: &mut Items<Asked>,
-) -> Result<Derived, Refusal>
+) -> Result<Derived, DerivingRefusal>
     ensures { Derives (spec.on_integers ctx.now family left right asked.old) result asked.new }
 {
     match family {
@@ -196,7 +196,7 @@ fn pointer_plus(
     pointer: Pointed,
     by: Whole,
     asked: &mut Items<Asked>,
-) -> Result<Derived, Refusal>
+) -> Result<Derived, DerivingRefusal>
     ensures { Derives (spec.pointer_plus ctx.now pointer by asked.old) result asked.new }
 {
     if pointer.nullterm {
@@ -214,11 +214,11 @@ fn moved_unless_text(
     pointer: Pointed,
     by: Whole,
     asked: &mut Items<Asked>,
-) -> Result<Derived, Refusal>
+) -> Result<Derived, DerivingRefusal>
     ensures { Derives (spec.moved_unless_text ctx.now how pointer by asked.old) result asked.new }
 {
     if pointer.nullterm {
-        Err(Refusal::NoRule)
+        Err(DerivingRefusal::NoRule)
     } else {
         moved(alloc, ctx, how, pointer, by, asked)
     }
@@ -246,11 +246,11 @@ fn compared_with_zero(
     op: Comparison,
     pointer: Pointed,
     zero: &Whole,
-) -> Result<Derived, Refusal>
-    ensures { Gives (spec.compared_with_zero op pointer zero.now) result }
+) -> Result<Derived, DerivingRefusal>
+    ensures { Yields (spec.compared_with_zero op pointer zero.now) result }
 {
     if !is_written(0, zero.written) {
-        return Err(Refusal::NoRule);
+        return Err(DerivingRefusal::NoRule);
     }
     Ok(with_null(alloc, op, pointer)?)
 }
@@ -261,11 +261,11 @@ fn zero_compared(
     op: Comparison,
     zero: &Whole,
     pointer: Pointed,
-) -> Result<Derived, Refusal>
-    ensures { Gives (spec.zero_compared op zero.now pointer) result }
+) -> Result<Derived, DerivingRefusal>
+    ensures { Yields (spec.zero_compared op zero.now pointer) result }
 {
     if !is_written(0, zero.written) {
-        return Err(Refusal::NoRule);
+        return Err(DerivingRefusal::NoRule);
     }
     Ok(null_with(alloc, op, pointer)?)
 }
@@ -279,7 +279,7 @@ fn on_pointer_and_integer(
     pointer: Pointed,
     integer: Whole,
     asked: &mut Items<Asked>,
-) -> Result<Derived, Refusal>
+) -> Result<Derived, DerivingRefusal>
     ensures { Derives (spec.on_pointer_and_integer ctx.now family pointer integer asked.old) result asked.new }
 {
     match family {
@@ -290,7 +290,7 @@ fn on_pointer_and_integer(
         }
         Family::Equality(op) => compared_with_zero(alloc, op, pointer, &integer),
         Family::Logic(op) => Ok(joined(alloc, op, pointer.form, integer.form)?),
-        _ => Err(Refusal::NoRule),
+        _ => Err(DerivingRefusal::NoRule),
     }
 }
 
@@ -303,7 +303,7 @@ fn on_integer_and_pointer(
     integer: Whole,
     pointer: Pointed,
     asked: &mut Items<Asked>,
-) -> Result<Derived, Refusal>
+) -> Result<Derived, DerivingRefusal>
     ensures { Derives (spec.on_integer_and_pointer ctx.now family integer pointer asked.old) result asked.new }
 {
     match family {
@@ -313,7 +313,7 @@ fn on_integer_and_pointer(
         }
         Family::Equality(op) => zero_compared(alloc, op, &integer, pointer),
         Family::Logic(op) => Ok(joined(alloc, op, integer.form, pointer.form)?),
-        _ => Err(Refusal::NoRule),
+        _ => Err(DerivingRefusal::NoRule),
     }
 }
 
@@ -344,58 +344,58 @@ fn pointers_compared(
     op: Comparison,
     p: Pointed,
     q: Pointed,
-) -> Result<Derived, Refusal>
-    ensures { Gives (spec.pointers_compared op p q) result }
+) -> Result<Derived, DerivingRefusal>
+    ensures { Yields (spec.pointers_compared op p q) result }
 {
     if !alike(&p, &q) {
-        return Err(Refusal::NoRule);
+        return Err(DerivingRefusal::NoRule);
     }
     Ok(addresses_compared(alloc, op, p.form, q.form)?)
 }
 
 /// Two pointers.
 #[tactic(auto, unfolding(deputy_rules::specs::Operators::on_pointers))]
-fn on_pointers(alloc: Global, family: Family, p: Pointed, q: Pointed) -> Result<Derived, Refusal>
-    ensures { Gives (spec.on_pointers family p q) result }
+fn on_pointers(alloc: Global, family: Family, p: Pointed, q: Pointed) -> Result<Derived, DerivingRefusal>
+    ensures { Yields (spec.on_pointers family p q) result }
 {
     match family {
         Family::Order(op) => pointers_compared(alloc, op, p, q),
         Family::Equality(op) => pointers_compared(alloc, op, p, q),
         Family::Logic(op) => Ok(joined(alloc, op, p.form, q.form)?),
-        _ => Err(Refusal::NoRule),
+        _ => Err(DerivingRefusal::NoRule),
     }
 }
 
 /// A pointer and the null constant `(void *)0`.
 #[tactic(auto, unfolding(deputy_rules::specs::Operators::pointer_and_null))]
-fn pointer_and_null(alloc: Global, family: Family, pointer: Pointed) -> Result<Derived, Refusal>
-    ensures { Gives (spec.pointer_and_null family pointer) result }
+fn pointer_and_null(alloc: Global, family: Family, pointer: Pointed) -> Result<Derived, DerivingRefusal>
+    ensures { Yields (spec.pointer_and_null family pointer) result }
 {
     match family {
         Family::Equality(op) => Ok(with_null(alloc, op, pointer)?),
-        _ => Err(Refusal::NoRule),
+        _ => Err(DerivingRefusal::NoRule),
     }
 }
 
 /// The null constant `(void *)0` and a pointer.
 #[tactic(auto, unfolding(deputy_rules::specs::Operators::null_and_pointer))]
-fn null_and_pointer(alloc: Global, family: Family, pointer: Pointed) -> Result<Derived, Refusal>
-    ensures { Gives (spec.null_and_pointer family pointer) result }
+fn null_and_pointer(alloc: Global, family: Family, pointer: Pointed) -> Result<Derived, DerivingRefusal>
+    ensures { Yields (spec.null_and_pointer family pointer) result }
 {
     match family {
         Family::Equality(op) => Ok(null_with(alloc, op, pointer)?),
-        _ => Err(Refusal::NoRule),
+        _ => Err(DerivingRefusal::NoRule),
     }
 }
 
 /// The null constant `(void *)0` and a value.
-fn on_null(alloc: Global, family: Family, right: Value) -> Result<Derived, Refusal>
-    ensures { Gives (spec.on_null family right) result }
+fn on_null(alloc: Global, family: Family, right: Value) -> Result<Derived, DerivingRefusal>
+    ensures { Yields (spec.on_null family right) result }
 {
     match right {
-        Value::Int(_) => Err(Refusal::NoRule),
+        Value::Int(_) => Err(DerivingRefusal::NoRule),
         Value::Pointer(pointer) => null_and_pointer(alloc, family, pointer),
-        Value::Null => Err(Refusal::NoRule),
+        Value::Null => Err(DerivingRefusal::NoRule),
     }
 }
 
@@ -407,7 +407,7 @@ fn on_integer_and(
     left: Whole,
     right: Value,
     asked: &mut Items<Asked>,
-) -> Result<Derived, Refusal>
+) -> Result<Derived, DerivingRefusal>
     ensures { Derives (spec.on_values ctx.now family (value.Int left) right asked.old) result asked.new }
 {
     match right {
@@ -415,7 +415,7 @@ fn on_integer_and(
         Value::Pointer(pointer) => {
             on_integer_and_pointer(alloc, ctx, family, left, pointer, asked)
         }
-        Value::Null => Err(Refusal::NoRule),
+        Value::Null => Err(DerivingRefusal::NoRule),
     }
 }
 
@@ -427,7 +427,7 @@ fn on_pointer_and(
     left: Pointed,
     right: Value,
     asked: &mut Items<Asked>,
-) -> Result<Derived, Refusal>
+) -> Result<Derived, DerivingRefusal>
     ensures { Derives (spec.on_values ctx.now family (value.Pointer left) right asked.old) result asked.new }
 {
     match right {
@@ -445,7 +445,7 @@ fn on_values(
     left: Value,
     right: Value,
     asked: &mut Items<Asked>,
-) -> Result<Derived, Refusal>
+) -> Result<Derived, DerivingRefusal>
     ensures { Derives (spec.on_values ctx.now family left right asked.old) result asked.new }
 {
     match left {
@@ -464,7 +464,7 @@ pub fn binary(
     left: Derived,
     right: Derived,
     asked: &mut Items<Asked>,
-) -> Result<Derived, Refusal>
+) -> Result<Derived, DerivingRefusal>
     ensures { Derives (spec.binary ctx.now op left right asked.old) result asked.new }
 {
     let left = value_of(alloc, ctx, left)?;

@@ -1,6 +1,6 @@
 //! The derivation of an expression: one arm for each form, its parts first, left to right.
 ghost use Rattle.std.specs.Prelude.{◌≡◌};
-ghost use Rattle.deputy_rules.specs.Deriving.{Derives, Gives};
+ghost use Rattle.deputy_rules.specs.Deriving.{Derives, Yields};
 ghost use Rattle.deputy_rules.specs.Expressions as spec;
 
 use crate::Context;
@@ -12,19 +12,19 @@ use crate::pointers::{indexed_by, string};
 use crate::values::{integer_of, pointer_of, value_of};
 use c_tree::{Expr, TypeName};
 use checked_tree::CheckedExpr;
-use deputy_rules::{Asked, Derived, Refusal, Value};
+use deputy_rules::{Asked, Derived, DerivingRefusal, Value};
 use sd_base::Name;
 use sqlite_items::{Boxed, Items};
 use std::alloc::Global;
 
 /// `sizeof(T)`.
 #[tactic(auto, unfolding(deputy_rules::specs::Expressions::size_of_type))]
-fn size_of_type(alloc: Global, ctx: &Context<'_>, name: &TypeName) -> Result<Derived, Refusal>
-    ensures { Gives (spec.size_of_type ctx.now name.now) result }
+fn size_of_type(alloc: Global, ctx: &Context<'_>, name: &TypeName) -> Result<Derived, DerivingRefusal>
+    ensures { Yields (spec.size_of_type ctx.now name.now) result }
 {
     match ctx.types.size(name) {
         Some(size) => Ok(size_constant(alloc, size)?),
-        None => Err(Refusal::NoRule),
+        None => Err(DerivingRefusal::NoRule),
     }
 }
 
@@ -36,7 +36,7 @@ fn arrow(
     of: Derived,
     name: &Name,
     asked: &mut Items<Asked>,
-) -> Result<Derived, Refusal>
+) -> Result<Derived, DerivingRefusal>
     ensures { Derives (spec.arrow ctx.now of name.now asked.old) result asked.new }
 {
     let pointer = pointer_of(alloc, ctx, of)?;
@@ -52,7 +52,7 @@ fn subscript(
     of: Derived,
     index: Derived,
     asked: &mut Items<Asked>,
-) -> Result<Derived, Refusal>
+) -> Result<Derived, DerivingRefusal>
     ensures { Derives (spec.subscript ctx.now of index asked.old) result asked.new }
 {
     let pointer = pointer_of(alloc, ctx, of)?;
@@ -67,7 +67,7 @@ pub fn derive(
     ctx: &Context<'_>,
     e: &Expr,
     asked: &mut Items<Asked>,
-) -> Result<Derived, Refusal>
+) -> Result<Derived, DerivingRefusal>
     ensures { Derives (spec.derive ctx.now e.now asked.old) result asked.new }
 {
     match e {
@@ -108,13 +108,13 @@ pub fn derive(
 }
 
 /// The checked form of a value; `(void *)0` has none until a pointer is wanted.
-fn form_of(value: Value) -> Result<Boxed<CheckedExpr>, Refusal>
-    ensures { Gives (spec.form_of value) result }
+fn form_of(value: Value) -> Result<Boxed<CheckedExpr>, DerivingRefusal>
+    ensures { Yields (spec.form_of value) result }
 {
     match value {
         Value::Int(found) => Ok(found.form),
         Value::Pointer(found) => Ok(found.form),
-        Value::Null => Err(Refusal::NoRule),
+        Value::Null => Err(DerivingRefusal::NoRule),
     }
 }
 
@@ -125,7 +125,7 @@ pub fn expression(
     ctx: &Context<'_>,
     e: &Expr,
     asked: &mut Items<Asked>,
-) -> Result<Boxed<CheckedExpr>, Refusal>
+) -> Result<Boxed<CheckedExpr>, DerivingRefusal>
     ensures { Derives (spec.expression ctx.now e.now asked.old) result asked.new }
 {
     let derived = derive(alloc, ctx, e, asked)?;

@@ -1,6 +1,6 @@
 //! Integers: constants, the operators before one operand, and casts. The only refusal of a function that answers an `AllocError` is want of memory.
 ghost use Rattle.std.specs.Prelude.{◌≡◌, neg_ℤ, pos, IfOk};
-ghost use Rattle.deputy_rules.specs.Deriving.{Derives, Gives};
+ghost use Rattle.deputy_rules.specs.Deriving.{Derives, Yields};
 ghost use Rattle.deputy_rules.specs.Operators as spec;
 
 use crate::Context;
@@ -10,7 +10,7 @@ use crate::pointers::address_of;
 use crate::values::{integer_of, pointer_of, value_of};
 use c_tree::{Base, Number, Star, Suffix, TypeName, Unary};
 use checked_tree::{CheckedExpr, Scalar, converted};
-use deputy_rules::{Asked, Derived, Refusal, Value, Whole, Written};
+use deputy_rules::{Asked, Derived, DerivingRefusal, Value, Whole, Written};
 use sqlite_items::{Boxed, Items};
 use std::alloc::{AllocError, Global};
 
@@ -169,19 +169,19 @@ fn negation(alloc: Global, form: Boxed<CheckedExpr>) -> Result<Derived, AllocErr
 }
 
 /// `!` of a value.
-fn not_by(alloc: Global, value: Value) -> Result<Derived, Refusal>
-    ensures { Gives (spec.not_by value) result }
+fn not_by(alloc: Global, value: Value) -> Result<Derived, DerivingRefusal>
+    ensures { Yields (spec.not_by value) result }
 {
     match value {
         Value::Int(of) => Ok(negation(alloc, of.form)?),
         Value::Pointer(of) => Ok(negation(alloc, of.form)?),
-        Value::Null => Err(Refusal::NoRule),
+        Value::Null => Err(DerivingRefusal::NoRule),
     }
 }
 
 /// `-e`.
-fn minus(alloc: Global, ctx: &Context<'_>, of: Derived) -> Result<Derived, Refusal>
-    ensures { Gives (spec.minus ctx.now of) result }
+fn minus(alloc: Global, ctx: &Context<'_>, of: Derived) -> Result<Derived, DerivingRefusal>
+    ensures { Yields (spec.minus ctx.now of) result }
 {
     let of = integer_of(alloc, ctx, of)?;
     Ok(negative(alloc, of)?)
@@ -193,16 +193,16 @@ fn on_integer(
     ctx: &Context<'_>,
     op: checked_tree::Unary,
     of: Derived,
-) -> Result<Derived, Refusal>
-    ensures { Gives (spec.on_integer ctx.now op of) result }
+) -> Result<Derived, DerivingRefusal>
+    ensures { Yields (spec.on_integer ctx.now op of) result }
 {
     let of = integer_of(alloc, ctx, of)?;
     Ok(on_one(alloc, op, of)?)
 }
 
 /// `!e`.
-fn not_of(alloc: Global, ctx: &Context<'_>, of: Derived) -> Result<Derived, Refusal>
-    ensures { Gives (spec.not_of ctx.now of) result }
+fn not_of(alloc: Global, ctx: &Context<'_>, of: Derived) -> Result<Derived, DerivingRefusal>
+    ensures { Yields (spec.not_of ctx.now of) result }
 {
     let of = value_of(alloc, ctx, of)?;
     not_by(alloc, of)
@@ -215,7 +215,7 @@ fn dereferenced(
     ctx: &Context<'_>,
     of: Derived,
     asked: &mut Items<Asked>,
-) -> Result<Derived, Refusal>
+) -> Result<Derived, DerivingRefusal>
     ensures { Derives (spec.dereferenced ctx.now of asked.old) result asked.new }
 {
     let pointer = pointer_of(alloc, ctx, of)?;
@@ -230,7 +230,7 @@ pub fn unary(
     op: Unary,
     of: Derived,
     asked: &mut Items<Asked>,
-) -> Result<Derived, Refusal>
+) -> Result<Derived, DerivingRefusal>
     ensures { Derives (spec.unary ctx.now op of asked.old) result asked.new }
 {
     match op {
@@ -295,8 +295,8 @@ fn cast_by(
     ctx: &Context<'_>,
     scalar: Scalar,
     of: Derived,
-) -> Result<Derived, Refusal>
-    ensures { Gives (spec.cast_by ctx.now scalar of) result }
+) -> Result<Derived, DerivingRefusal>
+    ensures { Yields (spec.cast_by ctx.now scalar of) result }
 {
     let of = integer_of(alloc, ctx, of)?;
     Ok(cast_to(alloc, scalar, of)?)
@@ -309,11 +309,11 @@ pub fn cast(
     ctx: &Context<'_>,
     name: &TypeName,
     of: Derived,
-) -> Result<Derived, Refusal>
-    ensures { Gives (spec.cast ctx.now name.now of) result }
+) -> Result<Derived, DerivingRefusal>
+    ensures { Yields (spec.cast ctx.now name.now of) result }
 {
     match integer_type(name) {
         Some(scalar) => cast_by(alloc, ctx, scalar, of),
-        None => Err(Refusal::NoRule),
+        None => Err(DerivingRefusal::NoRule),
     }
 }

@@ -6,7 +6,7 @@ ghost use Rattle.deputy_rules.specs.declared.asked.AskedCond.TheVariants as cond
 ghost use Rattle.deputy_rules.specs.declared.derived.Derived.TheVariants as derived;
 ghost use Rattle.deputy_rules.specs.declared.derived.Source.TheVariants as source;
 ghost use Rattle.deputy_rules.specs.Deriving as asking;
-ghost use Rattle.deputy_rules.specs.Deriving.{Derives, Gives};
+ghost use Rattle.deputy_rules.specs.Deriving.{Derives, Yields};
 ghost use Rattle.deputy_rules.specs.Places as spec;
 ghost use Rattle.deputy_rules.specs.Sums as sums;
 ghost use Rattle.deputy_rules.specs.Values as values;
@@ -18,7 +18,7 @@ use crate::ids::one;
 use crate::names::{loaded_as, member_part};
 use crate::sums::beyond;
 use checked_tree::{Member, Shape, UnionShape};
-use deputy_rules::{ArrayPlace, Asked, AskedCond, Derived, FoundArm, Place, Refusal, Source, UnionPlace};
+use deputy_rules::{ArrayPlace, Asked, AskedCond, Derived, FoundArm, Place, DerivingRefusal, Source, UnionPlace};
 use deputy_types::Element;
 use sd_base::{CheckKind, Name};
 use sqlite_items::Items;
@@ -106,15 +106,15 @@ fn member_at(
     structure: u32,
     member: u32,
     found: &Member,
-) -> Result<Derived, Refusal>
-    ensures { Gives (spec.member_at ctx.now place structure member found.now) result }
+) -> Result<Derived, DerivingRefusal>
+    ensures { Yields (spec.member_at ctx.now place structure member found.now) result }
 {
     if !ctx.types.is_array(structure, member) {
         return Ok(plain_member(alloc, place, structure, member, found.offset)?);
     }
     match ctx.types.member_key(structure, member) {
         Some(key) => Ok(array_member(alloc, place, found.offset, found.count, key)?),
-        None => Err(Refusal::NoRule),
+        None => Err(DerivingRefusal::NoRule),
     }
 }
 
@@ -126,12 +126,12 @@ fn member_place(
     place: Place,
     structure: u32,
     member: u32,
-) -> Result<Derived, Refusal>
-    ensures { Gives (spec.member_place ctx.now place structure member) result }
+) -> Result<Derived, DerivingRefusal>
+    ensures { Yields (spec.member_place ctx.now place structure member) result }
 {
     match ctx.types.member(structure, member) {
         Some(found) => member_at(alloc, ctx, place, structure, member, found),
-        None => Err(Refusal::NoRule),
+        None => Err(DerivingRefusal::NoRule),
     }
 }
 
@@ -155,29 +155,29 @@ fn part_by(
     structure: u32,
     name: &Name,
     field: Option<u32>,
-) -> Result<Derived, Refusal>
-    ensures { Gives (spec.part_by ctx.now place structure name.now field) result }
+) -> Result<Derived, DerivingRefusal>
+    ensures { Yields (spec.part_by ctx.now place structure name.now field) result }
 {
     match field {
         Some(member) => member_place(alloc, ctx, place, structure, member),
         None => match ctx.types.union_of(structure, name) {
             Some(part) => Ok(union_place(place, structure, part)),
-            None => Err(Refusal::NoRule),
+            None => Err(DerivingRefusal::NoRule),
         },
     }
 }
 
 /// `l.f`, l a place.
 #[tactic(auto, unfolding(deputy_rules::specs::Places::part_of))]
-fn part_of(alloc: Global, ctx: &Context<'_>, place: Place, name: &Name) -> Result<Derived, Refusal>
-    ensures { Gives (spec.part_of ctx.now place name.now) result }
+fn part_of(alloc: Global, ctx: &Context<'_>, place: Place, name: &Name) -> Result<Derived, DerivingRefusal>
+    ensures { Yields (spec.part_of ctx.now place name.now) result }
 {
     match struct_of(ctx, place.source) {
         Some(structure) => {
             let field = ctx.types.field(structure, name);
             part_by(alloc, ctx, place, structure, name, field)
         }
-        None => Err(Refusal::NoRule),
+        None => Err(DerivingRefusal::NoRule),
     }
 }
 
@@ -250,7 +250,7 @@ fn ask_tag(
     place: &UnionPlace,
     arm: FoundArm,
     asked: &mut Items<Asked>,
-) -> Result<usize, Refusal>
+) -> Result<usize, DerivingRefusal>
     ensures { Derives
         (asking.ask ctx.now kind.Tag (cond.Equal (values.member_part place.now.container arm.tag_scalar arm.tag_offset) arm.constant) asked.old)
         result asked.new }
@@ -294,7 +294,7 @@ fn arm_at(
     place: UnionPlace,
     arm: FoundArm,
     asked: &mut Items<Asked>,
-) -> Result<Derived, Refusal>
+) -> Result<Derived, DerivingRefusal>
     ensures { Derives (spec.arm_at ctx.now place arm asked.old) result asked.new }
 {
     let id = ask_tag(alloc, ctx, &place, arm, asked)?;
@@ -309,12 +309,12 @@ fn arm_place(
     place: UnionPlace,
     name: &Name,
     asked: &mut Items<Asked>,
-) -> Result<Derived, Refusal>
+) -> Result<Derived, DerivingRefusal>
     ensures { Derives (spec.arm_place ctx.now place name.now asked.old) result asked.new }
 {
     match found_arm(ctx, place.structure, place.part, name) {
         Some(arm) => arm_at(alloc, ctx, place, arm, asked),
-        None => Err(Refusal::NoRule),
+        None => Err(DerivingRefusal::NoRule),
     }
 }
 
@@ -326,14 +326,14 @@ pub fn dotted(
     of: Derived,
     name: &Name,
     asked: &mut Items<Asked>,
-) -> Result<Derived, Refusal>
+) -> Result<Derived, DerivingRefusal>
     ensures { Derives (spec.dotted ctx.now of name.now asked.old) result asked.new }
 {
     match of {
         Derived::Place(place) => part_of(alloc, ctx, place, name),
         Derived::Union(place) => arm_place(alloc, ctx, place, name, asked),
-        Derived::Value(_) => Err(Refusal::NoRule),
-        Derived::Local(_) => Err(Refusal::NoRule),
-        Derived::Array(_) => Err(Refusal::NoRule),
+        Derived::Value(_) => Err(DerivingRefusal::NoRule),
+        Derived::Local(_) => Err(DerivingRefusal::NoRule),
+        Derived::Array(_) => Err(DerivingRefusal::NoRule),
     }
 }

@@ -6,7 +6,7 @@ ghost use Rattle.deputy_rules.specs.declared.asked.AskedCond.TheVariants as cond
 ghost use Rattle.deputy_rules.specs.declared.derived.Derived.TheVariants as derived;
 ghost use Rattle.deputy_rules.specs.declared.derived.Source.TheVariants as source;
 ghost use Rattle.deputy_rules.specs.Deriving as asking;
-ghost use Rattle.deputy_rules.specs.Deriving.{Derives, Gives};
+ghost use Rattle.deputy_rules.specs.Deriving.{Derives, Yields};
 ghost use Rattle.deputy_rules.specs.Places as spec;
 
 use crate::Context;
@@ -16,7 +16,7 @@ use crate::forms::{block_form, element_form, through_form};
 use crate::ids::{Ids, joined, one, with_id};
 use crate::sums::{beyond, constant, side, times, with_part};
 use checked_tree::{ImageBlock, Scalar, Sum};
-use deputy_rules::{ArrayPlace, Asked, AskedCond, Derived, Place, Pointed, Refusal, Source, Whole};
+use deputy_rules::{ArrayPlace, Asked, AskedCond, Derived, Place, Pointed, DerivingRefusal, Source, Whole};
 use deputy_types::{Element, GlobalPlace};
 use sd_base::{CheckKind, Name};
 use sqlite_items::Items;
@@ -50,38 +50,38 @@ fn block_place(
 
 /// A global.
 #[tactic(auto, unfolding(deputy_rules::specs::Places::global_place))]
-fn global_place(alloc: Global, ctx: &Context<'_>, global: GlobalPlace) -> Result<Derived, Refusal>
-    ensures { Gives (spec.global_place ctx.now global) result }
+fn global_place(alloc: Global, ctx: &Context<'_>, global: GlobalPlace) -> Result<Derived, DerivingRefusal>
+    ensures { Yields (spec.global_place ctx.now global) result }
 {
     match sqlite_items::at(ctx.types.image(), global.block as usize) {
         Some(block) => match ctx.types.element_at(block.elem) {
             Some(key) => Ok(block_place(alloc, global.array, block, key)?),
-            None => Err(Refusal::NoRule),
+            None => Err(DerivingRefusal::NoRule),
         },
-        None => Err(Refusal::NoRule),
+        None => Err(DerivingRefusal::NoRule),
     }
 }
 
 /// A parameter or local whose declaration is derived.
-fn local_of(ctx: &Context<'_>, slot: u32) -> Result<Derived, Refusal>
-    ensures { Gives (spec.local_of ctx.now slot) result }
+fn local_of(ctx: &Context<'_>, slot: u32) -> Result<Derived, DerivingRefusal>
+    ensures { Yields (spec.local_of ctx.now slot) result }
 {
     match ctx.slot_shape(slot) {
         Some(_) => Ok(Derived::Local(slot)),
-        None => Err(Refusal::NoRule),
+        None => Err(DerivingRefusal::NoRule),
     }
 }
 
 /// A name: a parameter or local, which hides a global, or else a global.
 #[tactic(auto, unfolding(deputy_rules::specs::Places::named))]
-pub fn named(alloc: Global, ctx: &Context<'_>, name: &Name) -> Result<Derived, Refusal>
-    ensures { Gives (spec.named ctx.now name.now) result }
+pub fn named(alloc: Global, ctx: &Context<'_>, name: &Name) -> Result<Derived, DerivingRefusal>
+    ensures { Yields (spec.named ctx.now name.now) result }
 {
     match ctx.locals.slot(name) {
         Some(slot) => local_of(ctx, slot),
         None => match ctx.types.global(name) {
             Some(global) => global_place(alloc, ctx, global),
-            None => Err(Refusal::NoRule),
+            None => Err(DerivingRefusal::NoRule),
         },
     }
 }
@@ -93,7 +93,7 @@ pub fn not_null(
     ctx: &Context<'_>,
     pointer: &Pointed,
     asked: &mut Items<Asked>,
-) -> Result<Ids, Refusal>
+) -> Result<Ids, DerivingRefusal>
     ensures { Derives (spec.not_null ctx.now pointer.now asked.old) result asked.new }
 {
     if pointer.sure {
@@ -112,7 +112,7 @@ fn ask_below_high(
     left: Sum,
     pointer: &Pointed,
     asked: &mut Items<Asked>,
-) -> Result<usize, Refusal>
+) -> Result<usize, DerivingRefusal>
     ensures { Derives (asking.ask ctx.now kind.Bound (cond.Le left pointer.now.high) asked.old) result asked.new }
 {
     let right = copy_sum(alloc, &pointer.high)?;
@@ -143,7 +143,7 @@ pub fn through(
     ctx: &Context<'_>,
     pointer: Pointed,
     asked: &mut Items<Asked>,
-) -> Result<Derived, Refusal>
+) -> Result<Derived, DerivingRefusal>
     ensures { Derives (spec.through ctx.now pointer asked.old) result asked.new }
 {
     let ids = not_null(alloc, ctx, &pointer, asked)?;
@@ -164,7 +164,7 @@ pub fn through_text(
     ctx: &Context<'_>,
     pointer: Pointed,
     asked: &mut Items<Asked>,
-) -> Result<Derived, Refusal>
+) -> Result<Derived, DerivingRefusal>
     ensures { Derives (spec.through_text ctx.now pointer asked.old) result asked.new }
 {
     let ids = not_null(alloc, ctx, &pointer, asked)?;
@@ -178,7 +178,7 @@ pub fn followed(
     ctx: &Context<'_>,
     pointer: Pointed,
     asked: &mut Items<Asked>,
-) -> Result<Derived, Refusal>
+) -> Result<Derived, DerivingRefusal>
     ensures { Derives (spec.followed ctx.now pointer asked.old) result asked.new }
 {
     if pointer.nullterm {
@@ -207,7 +207,7 @@ pub fn not_below(
     low: &Sum,
     at: &Sum,
     asked: &mut Items<Asked>,
-) -> Result<Ids, Refusal>
+) -> Result<Ids, DerivingRefusal>
     ensures { Derives (spec.not_below ctx.now wanted low.now at.now asked.old) result asked.new }
 {
     if !wanted {
@@ -228,7 +228,7 @@ pub fn not_above(
     at: &Sum,
     high: &Sum,
     asked: &mut Items<Asked>,
-) -> Result<Ids, Refusal>
+) -> Result<Ids, DerivingRefusal>
     ensures { Derives (spec.not_above ctx.now wanted at.now high.now asked.old) result asked.new }
 {
     if !wanted {
@@ -258,7 +258,7 @@ fn index_checks(
     size: u32,
     at: &Sum,
     asked: &mut Items<Asked>,
-) -> Result<Ids, Refusal>
+) -> Result<Ids, DerivingRefusal>
     ensures { Derives (spec.index_checks ctx.now pointer.now index.now size at.now asked.old) result asked.new }
 {
     let ids = not_null(alloc, ctx, pointer, asked)?;
@@ -300,7 +300,7 @@ fn indexed_at(
     size: u32,
     at: Sum,
     asked: &mut Items<Asked>,
-) -> Result<Derived, Refusal>
+) -> Result<Derived, DerivingRefusal>
     ensures { Derives (spec.indexed_at ctx.now pointer index size at asked.old) result asked.new }
 {
     let ids = index_checks(alloc, ctx, &pointer, &index, size, &at, asked)?;
@@ -315,7 +315,7 @@ pub fn indexed(
     pointer: Pointed,
     index: Whole,
     asked: &mut Items<Asked>,
-) -> Result<Derived, Refusal>
+) -> Result<Derived, DerivingRefusal>
     ensures { Derives (spec.indexed ctx.now pointer index asked.old) result asked.new }
 {
     let size = ctx.size_of(pointer.elem);

@@ -5,7 +5,7 @@ ghost use Rattle.checked_tree.specs.declared.expressions.CheckedExpr.TheVariants
 ghost use Rattle.checked_tree.specs.declared.expressions.PointerSum.TheVariants as pointer_sum;
 ghost use Rattle.deputy_rules.specs.declared.asked.AskedCond.TheVariants as cond;
 ghost use Rattle.deputy_rules.specs.Deriving as asking;
-ghost use Rattle.deputy_rules.specs.Deriving.{Derives, Gives};
+ghost use Rattle.deputy_rules.specs.Deriving.{Derives, Yields};
 ghost use Rattle.deputy_rules.specs.Pointers as spec;
 
 use crate::Context;
@@ -18,7 +18,7 @@ use crate::places::{
 };
 use crate::sums::{beyond, constant};
 use checked_tree::{CheckedExpr, ImageBlock, Member, PointerSum, Scalar, Sum};
-use deputy_rules::{Asked, AskedCond, Derived, Place, Pointed, Refusal, Source, Value, Whole, Written};
+use deputy_rules::{Asked, AskedCond, Derived, Place, Pointed, DerivingRefusal, Source, Value, Whole, Written};
 use deputy_types::{Element, has_names};
 use sd_base::CheckKind;
 use sqlite_items::{Boxed, Items};
@@ -53,15 +53,15 @@ fn string_at(alloc: Global, block: &ImageBlock) -> Result<Derived, AllocError>
 
 /// The string with this number in the text.
 #[tactic(auto, unfolding(deputy_rules::specs::Pointers::string))]
-pub fn string(alloc: Global, ctx: &Context<'_>, number: u32) -> Result<Derived, Refusal>
-    ensures { Gives (spec.string ctx.now number) result }
+pub fn string(alloc: Global, ctx: &Context<'_>, number: u32) -> Result<Derived, DerivingRefusal>
+    ensures { Yields (spec.string ctx.now number) result }
 {
     match ctx.types.literal(number) {
         Some(block) => match sqlite_items::at(ctx.types.image(), block as usize) {
             Some(found) => Ok(string_at(alloc, found)?),
-            None => Err(Refusal::NoRule),
+            None => Err(DerivingRefusal::NoRule),
         },
-        None => Err(Refusal::NoRule),
+        None => Err(DerivingRefusal::NoRule),
     }
 }
 
@@ -130,26 +130,26 @@ fn address_at(
 
 /// The address of a place.
 #[tactic(auto, unfolding(deputy_rules::specs::Pointers::address_of_place))]
-fn address_of_place(alloc: Global, ctx: &Context<'_>, place: Place) -> Result<Derived, Refusal>
-    ensures { Gives (spec.address_of_place ctx.now place) result }
+fn address_of_place(alloc: Global, ctx: &Context<'_>, place: Place) -> Result<Derived, DerivingRefusal>
+    ensures { Yields (spec.address_of_place ctx.now place) result }
 {
     match addressed(ctx, place.source) {
         Some(key) => Ok(address_at(alloc, ctx, place, key)?),
-        None => Err(Refusal::NoRule),
+        None => Err(DerivingRefusal::NoRule),
     }
 }
 
 /// `&l`: no local, union or array has an address.
 #[tactic(auto, unfolding(deputy_rules::specs::Pointers::address_of))]
-pub fn address_of(alloc: Global, ctx: &Context<'_>, of: Derived) -> Result<Derived, Refusal>
-    ensures { Gives (spec.address_of ctx.now of) result }
+pub fn address_of(alloc: Global, ctx: &Context<'_>, of: Derived) -> Result<Derived, DerivingRefusal>
+    ensures { Yields (spec.address_of ctx.now of) result }
 {
     match of {
         Derived::Place(place) => address_of_place(alloc, ctx, place),
-        Derived::Value(_) => Err(Refusal::NoRule),
-        Derived::Local(_) => Err(Refusal::NoRule),
-        Derived::Array(_) => Err(Refusal::NoRule),
-        Derived::Union(_) => Err(Refusal::NoRule),
+        Derived::Value(_) => Err(DerivingRefusal::NoRule),
+        Derived::Local(_) => Err(DerivingRefusal::NoRule),
+        Derived::Array(_) => Err(DerivingRefusal::NoRule),
+        Derived::Union(_) => Err(DerivingRefusal::NoRule),
     }
 }
 
@@ -196,7 +196,7 @@ fn move_checks(
     by: &Whole,
     at: &Sum,
     asked: &mut Items<Asked>,
-) -> Result<Ids, Refusal>
+) -> Result<Ids, DerivingRefusal>
     ensures { Derives (spec.move_checks ctx.now how from.now by.now at.now asked.old) result asked.new }
 {
     let unsigned = is_unsigned(by.scalar);
@@ -250,7 +250,7 @@ fn moved_to(
     size: u32,
     at: Sum,
     asked: &mut Items<Asked>,
-) -> Result<Derived, Refusal>
+) -> Result<Derived, DerivingRefusal>
     ensures { Derives (spec.moved_to ctx.now how from by size at asked.old) result asked.new }
 {
     let ids = move_checks(alloc, ctx, how, &from, &by, &at, asked)?;
@@ -266,7 +266,7 @@ pub fn moved(
     from: Pointed,
     by: Whole,
     asked: &mut Items<Asked>,
-) -> Result<Derived, Refusal>
+) -> Result<Derived, DerivingRefusal>
     ensures { Derives (spec.moved ctx.now how from by asked.old) result asked.new }
 {
     let size = ctx.size_of(from.elem);
@@ -293,7 +293,7 @@ fn not_ended(
     wanted: bool,
     at: &Sum,
     asked: &mut Items<Asked>,
-) -> Result<Ids, Refusal>
+) -> Result<Ids, DerivingRefusal>
     ensures { Derives (spec.not_ended ctx.now wanted at.now asked.old) result asked.new }
 {
     if !wanted {
@@ -317,7 +317,7 @@ fn text_checks(
     from: &Pointed,
     by: &Whole,
     asked: &mut Items<Asked>,
-) -> Result<Ids, Refusal>
+) -> Result<Ids, DerivingRefusal>
     ensures { Derives (spec.text_checks ctx.now from.now by.now asked.old) result asked.new }
 {
     let ids = not_null(alloc, ctx, from, asked)?;
@@ -368,7 +368,7 @@ fn text_to(
     size: u32,
     at: Sum,
     asked: &mut Items<Asked>,
-) -> Result<Pointed, Refusal>
+) -> Result<Pointed, DerivingRefusal>
     ensures { Derives (spec.text_to ctx.now from by size at asked.old) result asked.new }
 {
     let ids = text_checks(alloc, ctx, &from, &by, asked)?;
@@ -383,7 +383,7 @@ fn text_moved(
     from: Pointed,
     by: Whole,
     asked: &mut Items<Asked>,
-) -> Result<Pointed, Refusal>
+) -> Result<Pointed, DerivingRefusal>
     ensures { Derives (spec.text_moved ctx.now from by asked.old) result asked.new }
 {
     let size = ctx.size_of(from.elem);
@@ -399,7 +399,7 @@ fn text_stepped(
     from: Pointed,
     by: Whole,
     asked: &mut Items<Asked>,
-) -> Result<Derived, Refusal>
+) -> Result<Derived, DerivingRefusal>
     ensures { Derives (spec.text_stepped ctx.now from by asked.old) result asked.new }
 {
     Ok(pointer(text_moved(alloc, ctx, from, by, asked)?))
@@ -413,7 +413,7 @@ pub fn text_sum(
     from: Pointed,
     by: Whole,
     asked: &mut Items<Asked>,
-) -> Result<Derived, Refusal>
+) -> Result<Derived, DerivingRefusal>
     ensures { Derives (spec.text_sum ctx.now from by asked.old) result asked.new }
 {
     if is_written(0, by.written) {
@@ -422,7 +422,7 @@ pub fn text_sum(
     if is_written(1, by.written) {
         return text_stepped(alloc, ctx, from, by, asked);
     }
-    Err(Refusal::NoRule)
+    Err(DerivingRefusal::NoRule)
 }
 
 /// `e[1]`, e nullterm, as `*(e + 1)`.
@@ -433,7 +433,7 @@ fn text_second(
     from: Pointed,
     by: Whole,
     asked: &mut Items<Asked>,
-) -> Result<Derived, Refusal>
+) -> Result<Derived, DerivingRefusal>
     ensures { Derives (spec.text_second ctx.now from by asked.old) result asked.new }
 {
     let second = text_moved(alloc, ctx, from, by, asked)?;
@@ -448,7 +448,7 @@ fn text_indexed(
     from: Pointed,
     by: Whole,
     asked: &mut Items<Asked>,
-) -> Result<Derived, Refusal>
+) -> Result<Derived, DerivingRefusal>
     ensures { Derives (spec.text_indexed ctx.now from by asked.old) result asked.new }
 {
     if is_written(0, by.written) {
@@ -457,7 +457,7 @@ fn text_indexed(
     if is_written(1, by.written) {
         return text_second(alloc, ctx, from, by, asked);
     }
-    Err(Refusal::NoRule)
+    Err(DerivingRefusal::NoRule)
 }
 
 /// `e[i]`.
@@ -468,7 +468,7 @@ pub fn indexed_by(
     from: Pointed,
     by: Whole,
     asked: &mut Items<Asked>,
-) -> Result<Derived, Refusal>
+) -> Result<Derived, DerivingRefusal>
     ensures { Derives (spec.indexed_by ctx.now from by asked.old) result asked.new }
 {
     if from.nullterm {

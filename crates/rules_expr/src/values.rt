@@ -1,6 +1,6 @@
 //! Reading: the value of a local or of a place, with the bounds that its annotation gives, the names read in the same struct or function.
 ghost use Rattle.std.specs.Prelude.{◌≡◌, IfOk, option_copied};
-ghost use Rattle.deputy_rules.specs.Deriving.{Gives};
+ghost use Rattle.deputy_rules.specs.Deriving.{Yields};
 ghost use Rattle.deputy_types.specs.Options.{and_then};
 ghost use Rattle.deputy_types.specs.Table as table;
 ghost use Rattle.deputy_rules.specs.Values as spec;
@@ -13,7 +13,7 @@ use crate::forms::{address_form, load_form, local_form};
 use crate::names::{high_sum, low_sum, of_slots, of_struct, slot_sum};
 use crate::sums::{atom, with_part};
 use checked_tree::{Bounds, CheckedExpr, Part, Scalar, Shape, Sum};
-use deputy_rules::{ArrayPlace, Derived, Naming, Place, Pointed, Refusal, Source, Value, Whole, Written};
+use deputy_rules::{ArrayPlace, Derived, Naming, Place, Pointed, DerivingRefusal, Source, Value, Whole, Written};
 use deputy_types::Element;
 use sqlite_items::Boxed;
 use std::alloc::{AllocError, Global};
@@ -72,11 +72,11 @@ fn bounded_pointer(
     form: Boxed<CheckedExpr>,
     elem: u32,
     bounds: &Bounds,
-) -> Result<Value, Refusal>
-    ensures { Gives (spec.bounded_pointer ctx.now naming.now form elem bounds.now) result }
+) -> Result<Value, DerivingRefusal>
+    ensures { Yields (spec.bounded_pointer ctx.now naming.now form elem bounds.now) result }
 {
     let Some(key) = ctx.types.element_at(elem) else {
-        return Err(Refusal::NoRule);
+        return Err(DerivingRefusal::NoRule);
     };
     let low = low_sum(alloc, ctx, naming, atom(alloc, form.get())?, bounds)?;
     let high = high_sum(alloc, ctx, naming, atom(alloc, form.get())?, bounds)?;
@@ -85,14 +85,14 @@ fn bounded_pointer(
 
 /// A local pointer whose bounds lie in two hidden slots.
 #[tactic(auto, unfolding(deputy_rules::specs::Values::hidden_pointer))]
-fn hidden_pointer(alloc: Global, ctx: &Context<'_>, slot: u32, elem: u32) -> Result<Value, Refusal>
-    ensures { Gives (spec.hidden_pointer ctx.now slot elem) result }
+fn hidden_pointer(alloc: Global, ctx: &Context<'_>, slot: u32, elem: u32) -> Result<Value, DerivingRefusal>
+    ensures { Yields (spec.hidden_pointer ctx.now slot elem) result }
 {
     let Some(hidden) = ctx.locals.hidden(slot) else {
-        return Err(Refusal::NoRule);
+        return Err(DerivingRefusal::NoRule);
     };
     let Some(key) = ctx.types.element_at(elem) else {
-        return Err(Refusal::NoRule);
+        return Err(DerivingRefusal::NoRule);
     };
     let form = local_form(alloc, slot)?;
     let low = slot_sum(alloc, hidden)?;
@@ -108,8 +108,8 @@ fn annotated_local(
     slot: u32,
     elem: u32,
     bounds: &Bounds,
-) -> Result<Value, Refusal>
-    ensures { Gives (spec.bounded_pointer ctx.now spec.of_slots (form.Local slot) elem bounds.now) result }
+) -> Result<Value, DerivingRefusal>
+    ensures { Yields (spec.bounded_pointer ctx.now spec.of_slots (form.Local slot) elem bounds.now) result }
 {
     let form = local_form(alloc, slot)?;
     let naming = of_slots();
@@ -123,8 +123,8 @@ fn local_pointer(
     slot: u32,
     elem: u32,
     bounds: &Bounds,
-) -> Result<Value, Refusal>
-    ensures { Gives (spec.local_pointer ctx.now slot elem bounds.now) result }
+) -> Result<Value, DerivingRefusal>
+    ensures { Yields (spec.local_pointer ctx.now slot elem bounds.now) result }
 {
     match bounds {
         Bounds::Hidden => hidden_pointer(alloc, ctx, slot, elem),
@@ -134,25 +134,25 @@ fn local_pointer(
 }
 
 /// The value of a local of this shape.
-fn slot_value(alloc: Global, ctx: &Context<'_>, slot: u32, shape: &Shape) -> Result<Value, Refusal>
-    ensures { Gives (spec.slot_value ctx.now slot shape.now) result }
+fn slot_value(alloc: Global, ctx: &Context<'_>, slot: u32, shape: &Shape) -> Result<Value, DerivingRefusal>
+    ensures { Yields (spec.slot_value ctx.now slot shape.now) result }
 {
     match shape {
         Shape::Int(scalar) => Ok(integer(local_form(alloc, slot)?, *scalar)),
         Shape::Pointer { elem, bounds } => local_pointer(alloc, ctx, slot, *elem, bounds),
-        Shape::Struct(_) => Err(Refusal::NoRule),
-        Shape::Address => Err(Refusal::NoRule),
+        Shape::Struct(_) => Err(DerivingRefusal::NoRule),
+        Shape::Address => Err(DerivingRefusal::NoRule),
     }
 }
 
 /// The value of a local.
 #[tactic(auto, unfolding(deputy_rules::specs::Values::local_value))]
-pub fn local_value(alloc: Global, ctx: &Context<'_>, slot: u32) -> Result<Value, Refusal>
-    ensures { Gives (spec.local_value ctx.now slot) result }
+pub fn local_value(alloc: Global, ctx: &Context<'_>, slot: u32) -> Result<Value, DerivingRefusal>
+    ensures { Yields (spec.local_value ctx.now slot) result }
 {
     match ctx.slot_shape(slot) {
         Some(shape) => slot_value(alloc, ctx, slot, shape),
-        None => Err(Refusal::NoRule),
+        None => Err(DerivingRefusal::NoRule),
     }
 }
 
@@ -164,11 +164,11 @@ fn counted_pointer(
     form: Boxed<CheckedExpr>,
     elem: u32,
     count: i64,
-) -> Result<Value, Refusal>
-    ensures { Gives (spec.counted_pointer ctx.now form elem count) result }
+) -> Result<Value, DerivingRefusal>
+    ensures { Yields (spec.counted_pointer ctx.now form elem count) result }
 {
     let Some(key) = ctx.types.element_at(elem) else {
-        return Err(Refusal::NoRule);
+        return Err(DerivingRefusal::NoRule);
     };
     let low = atom(alloc, form.get())?;
     let high = atom(alloc, form.get())?;
@@ -190,11 +190,11 @@ fn text_pointer(
     ctx: &Context<'_>,
     form: Boxed<CheckedExpr>,
     elem: u32,
-) -> Result<Value, Refusal>
-    ensures { Gives (spec.text_pointer ctx.now form elem) result }
+) -> Result<Value, DerivingRefusal>
+    ensures { Yields (spec.text_pointer ctx.now form elem) result }
 {
     let Some(key) = ctx.types.element_at(elem) else {
-        return Err(Refusal::NoRule);
+        return Err(DerivingRefusal::NoRule);
     };
     let low = atom(alloc, form.get())?;
     let high = atom(alloc, form.get())?;
@@ -215,12 +215,12 @@ fn element_value(
     ctx: &Context<'_>,
     place: Boxed<CheckedExpr>,
     key: Element,
-) -> Result<Value, Refusal>
-    ensures { Gives (spec.element_value ctx.now place key) result }
+) -> Result<Value, DerivingRefusal>
+    ensures { Yields (spec.element_value ctx.now place key) result }
 {
     match key {
         Element::Int(scalar) => Ok(integer(load_form(alloc, scalar, place)?, scalar)),
-        Element::Struct(_) => Err(Refusal::NoRule),
+        Element::Struct(_) => Err(DerivingRefusal::NoRule),
         Element::Sentinel(elem) => counted_pointer(alloc, ctx, loaded(alloc, place)?, elem, 0),
         Element::Nullterm(elem) => text_pointer(alloc, ctx, loaded(alloc, place)?, elem),
         Element::Count(elem, count) => {
@@ -252,8 +252,8 @@ fn member_pointer(
     structure: u32,
     elem: u32,
     bounds: &Bounds,
-) -> Result<Value, Refusal>
-    ensures { Gives
+) -> Result<Value, DerivingRefusal>
+    ensures { Yields
         (spec.bounded_pointer ctx.now (spec.of_struct (spec.container place) structure) (form.Load spec.address place) elem bounds.now) result }
 {
     let naming = of_struct(container(alloc, place.get())?, structure);
@@ -269,16 +269,16 @@ fn member_value(
     place: Boxed<CheckedExpr>,
     structure: u32,
     shape: &Shape,
-) -> Result<Value, Refusal>
-    ensures { Gives (spec.member_value ctx.now place structure shape.now) result }
+) -> Result<Value, DerivingRefusal>
+    ensures { Yields (spec.member_value ctx.now place structure shape.now) result }
 {
     match shape {
         Shape::Int(scalar) => Ok(integer(load_form(alloc, *scalar, place)?, *scalar)),
         Shape::Pointer { elem, bounds } => {
             member_pointer(alloc, ctx, place, structure, *elem, bounds)
         }
-        Shape::Struct(_) => Err(Refusal::NoRule),
-        Shape::Address => Err(Refusal::NoRule),
+        Shape::Struct(_) => Err(DerivingRefusal::NoRule),
+        Shape::Address => Err(DerivingRefusal::NoRule),
     }
 }
 
@@ -289,13 +289,13 @@ fn found_value(
     place: Boxed<CheckedExpr>,
     structure: u32,
     member: u32,
-) -> Result<Value, Refusal>
-    ensures { Gives
+) -> Result<Value, DerivingRefusal>
+    ensures { Yields
         (and_then (table.member ctx.now.table structure member) (λ x. spec.member_value ctx.now place structure x.shape)) result }
 {
     match ctx.types.member(structure, member) {
         Some(found) => member_value(alloc, ctx, place, structure, &found.shape),
-        None => Err(Refusal::NoRule),
+        None => Err(DerivingRefusal::NoRule),
     }
 }
 
@@ -313,8 +313,8 @@ pub fn source_value(
     ctx: &Context<'_>,
     place: Boxed<CheckedExpr>,
     source: Source,
-) -> Result<Value, Refusal>
-    ensures { Gives (spec.source_value ctx.now place source) result }
+) -> Result<Value, DerivingRefusal>
+    ensures { Yields (spec.source_value ctx.now place source) result }
 {
     match source {
         Source::Element(key) => element_value(alloc, ctx, place, key),
@@ -324,8 +324,8 @@ pub fn source_value(
 }
 
 /// The value of a place.
-fn place_value(alloc: Global, ctx: &Context<'_>, place: Place) -> Result<Value, Refusal>
-    ensures { Gives (spec.source_value ctx.now place.form place.source) result }
+fn place_value(alloc: Global, ctx: &Context<'_>, place: Place) -> Result<Value, DerivingRefusal>
+    ensures { Yields (spec.source_value ctx.now place.form place.source) result }
 {
     let Place {
         form,
@@ -364,52 +364,52 @@ pub fn array_value(alloc: Global, ctx: &Context<'_>, array: ArrayPlace) -> Resul
 
 /// The value of what was derived: a place or a local is read, and a struct or a union has none.
 #[tactic(auto, unfolding(deputy_rules::specs::Values::value_of))]
-pub fn value_of(alloc: Global, ctx: &Context<'_>, derived: Derived) -> Result<Value, Refusal>
-    ensures { Gives (spec.value_of ctx.now derived) result }
+pub fn value_of(alloc: Global, ctx: &Context<'_>, derived: Derived) -> Result<Value, DerivingRefusal>
+    ensures { Yields (spec.value_of ctx.now derived) result }
 {
     match derived {
         Derived::Value(value) => Ok(value),
         Derived::Local(slot) => local_value(alloc, ctx, slot),
         Derived::Place(place) => place_value(alloc, ctx, place),
         Derived::Array(array) => Ok(array_value(alloc, ctx, array)?),
-        Derived::Union(_) => Err(Refusal::NoRule),
+        Derived::Union(_) => Err(DerivingRefusal::NoRule),
     }
 }
 
 /// A value as an integer.
-fn whole(value: Value) -> Result<Whole, Refusal>
-    ensures { Gives (spec.whole value) result }
+fn whole(value: Value) -> Result<Whole, DerivingRefusal>
+    ensures { Yields (spec.whole value) result }
 {
     match value {
         Value::Int(found) => Ok(found),
-        Value::Pointer(_) => Err(Refusal::NoRule),
-        Value::Null => Err(Refusal::NoRule),
+        Value::Pointer(_) => Err(DerivingRefusal::NoRule),
+        Value::Null => Err(DerivingRefusal::NoRule),
     }
 }
 
 /// A value as a pointer.
-fn pointed(value: Value) -> Result<Pointed, Refusal>
-    ensures { Gives (spec.pointed value) result }
+fn pointed(value: Value) -> Result<Pointed, DerivingRefusal>
+    ensures { Yields (spec.pointed value) result }
 {
     match value {
-        Value::Int(_) => Err(Refusal::NoRule),
+        Value::Int(_) => Err(DerivingRefusal::NoRule),
         Value::Pointer(found) => Ok(found),
-        Value::Null => Err(Refusal::NoRule),
+        Value::Null => Err(DerivingRefusal::NoRule),
     }
 }
 
 /// The value of what was derived, as an integer.
 #[tactic(auto, unfolding(deputy_rules::specs::Values::integer_of))]
-pub fn integer_of(alloc: Global, ctx: &Context<'_>, derived: Derived) -> Result<Whole, Refusal>
-    ensures { Gives (spec.integer_of ctx.now derived) result }
+pub fn integer_of(alloc: Global, ctx: &Context<'_>, derived: Derived) -> Result<Whole, DerivingRefusal>
+    ensures { Yields (spec.integer_of ctx.now derived) result }
 {
     whole(value_of(alloc, ctx, derived)?)
 }
 
 /// The value of what was derived, as a pointer.
 #[tactic(auto, unfolding(deputy_rules::specs::Values::pointer_of))]
-pub fn pointer_of(alloc: Global, ctx: &Context<'_>, derived: Derived) -> Result<Pointed, Refusal>
-    ensures { Gives (spec.pointer_of ctx.now derived) result }
+pub fn pointer_of(alloc: Global, ctx: &Context<'_>, derived: Derived) -> Result<Pointed, DerivingRefusal>
+    ensures { Yields (spec.pointer_of ctx.now derived) result }
 {
     pointed(value_of(alloc, ctx, derived)?)
 }

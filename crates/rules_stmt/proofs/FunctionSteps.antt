@@ -8,7 +8,7 @@ use Rattle.checked_tree.specs.declared.shapes.Shape.{Shape}
 use Rattle.checked_tree.specs.declared.units.CheckedFn.{CheckedFn}
 use Rattle.deputy_rules.specs.Checking.{Fault, NoRule, Limit}
 use Rattle.deputy_rules.specs.Functions.{check_function, check_result, context_of}
-use Rattle.deputy_rules.specs.Heads.{Text, function_stands, is_over, result_of, slot_shapes}
+use Rattle.deputy_rules.specs.Heads.{SeenText, function_stands, is_over, result_of, slot_shapes}
 use Rattle.rules_stmt.proofs.SlotCounts.{slots_counted}
 
 chosen : {X : Type 0} (stands over : Bool) (a b c : X) → stands ≡ true → (if not stands then a else if over then b else c) ≡ (if over then b else c)
@@ -30,7 +30,7 @@ not_below n h = by (nat_lt 128 n) refl
     by true e = let above = ltb-true 128 n e in absurd (omega (arith, above, h))
     by false e = refl
 
-module _ (text : Text) (k : ℕ) (f : Function) (shapes : List (Option Shape)) where
+module _ (text : SeenText) (k : ℕ) (f : Function) (shapes : List (Option Shape)) where
   abbrev over : Bool
   over = nat_lt 128 (length (slots f))
 

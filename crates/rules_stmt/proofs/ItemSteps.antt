@@ -6,12 +6,12 @@ use Rattle.c_tree.specs.declared.items.Item.TheVariants as item
 use Rattle.checked_tree.specs.declared.units.CheckedFn.{CheckedFn}
 use Rattle.deputy_rules.specs.Checking.{Fault}
 use Rattle.deputy_rules.specs.Functions.{behind_function, check_function, check_items}
-use Rattle.deputy_rules.specs.Heads.{Text}
+use Rattle.deputy_rules.specs.Heads.{SeenText}
 use Rattle.check_numbering.specs.declared.refusal.RuleRefusal.{RuleRefusal}
 use Rattle.check_numbering.specs.declared.refusal.RuleRefusal.TheVariants as rule
 use Rattle.check_numbering.specs.Outcome.{fault_in}
 
-module _ (text : Text) (f : Function) (done : List CheckedFn) where
+module _ (text : SeenText) (f : Function) (done : List CheckedFn) where
   at_function : (o : Result CheckedFn Fault) (rest : List Item) → check_function text (length done) f ≡ o
       → check_items text (item.Function f ∷ rest) done ≡ behind_function done o (check_items text rest)
   at_function o rest found = ap (λ r. behind_function done r (check_items text rest)) found

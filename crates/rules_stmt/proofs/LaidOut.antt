@@ -10,7 +10,7 @@ use Rattle.layout_laws.specs.StructTable.{struct_items}
 use Rattle.layout_laws.proofs.LimitLaws.{keeps_limits}
 use Rattle.layout_laws.proofs.MemberNumbers.{members_found}
 use Rattle.layout_laws.proofs.StructsDeclared.{structs_declared}
-use Rattle.rules_stmt.specs.Units.{IsLaidOut}
+use Rattle.rules_stmt.specs.Units.{AreFewItems}
 
 -- a number is that of a struct that the text declares, or of none, which has no members
 few_members : (u : TextUnit) (t : Table) → layout u ≡ Ok t → (s : ℕ) → length (members_of t s) < 2 ^ 32
@@ -27,7 +27,7 @@ few_members u t h s = ⊎_elim declared none (slice_get_cases (struct_items u.it
         let is_none = slice_get_past t.structs s (omega (arith, past, as_many)) in
         subst (λ (o : Option StructShape). length (unwrap_or (option_map (λ (x : StructShape). x.members) o) []) < 2 ^ 32) (sym is_none) (omega arith)
 
-pub laid_out : (u : TextUnit) (t : Table) → layout u ≡ Ok t → IsLaidOut t u.items
+pub laid_out : (u : TextUnit) (t : Table) → layout u ≡ Ok t → AreFewItems t u.items
 laid_out u t h =
     let few = (keeps_limits u t h).functions in
     record { members_fit = few_members u t h; functions_fit = omega (arith, few) }

@@ -1,4 +1,4 @@
-pub mod Fits
+pub mod AreFewSlots
 pub mod Names
 pub mod Places
 pub mod Units

@@ -7,14 +7,14 @@ use Rattle.checked_tree.specs.declared.units.CheckedFn.{CheckedFn}
 use Rattle.deputy_rules.specs.Checking.{Fault}
 use Rattle.deputy_rules.specs.Functions.{check_items}
 use Rattle.deputy_types.specs.UnitLayout.{functions_of}
-use Rattle.deputy_rules.specs.Heads.{Text}
+use Rattle.deputy_rules.specs.Heads.{SeenText}
 use Rattle.deputy_types.specs.Table.{Table, members_of}
 use Rattle.check_numbering.specs.declared.refusal.RuleRefusal.{RuleRefusal}
 use Rattle.check_numbering.specs.declared.refusal.RuleRefusal.TheVariants as rule
 use Rattle.check_numbering.specs.Outcome.{fault_in}
 
 -- Each struct has less than 2^32 members, and there are less than 2^32 functions with bodies.
-pub record IsLaidOut (table : Table) (items : List Item) : Type 0 where
+pub record AreFewItems (table : Table) (items : List Item) : Type 0 where
   pub members_fit : (s : ℕ) → length (members_of table s) < 2 ^ 32
   pub functions_fit : length (functions_of items) < 2 ^ 32
 
@@ -29,6 +29,6 @@ IsChecked outcome (Ok a) = outcome ≡ Ok a
 IsChecked outcome (Err e) = e ≢ rule.Memory → outcome ≡ Err (fault_in e)
 
 -- One item is checked, behind the functions that are done: what is left then, or the fault of the whole.
-abbrev pub Steps : Text → Item → List CheckedFn → Result (List CheckedFn) RuleRefusal → Type 0
-Steps text i done (Ok more) = (rest : List Item) → check_items text (i ∷ rest) done ≡ check_items text rest more
-Steps text i done (Err e) = (rest : List Item) → e ≢ rule.Memory → check_items text (i ∷ rest) done ≡ Err (fault_in e)
+abbrev pub StepsOver : SeenText → Item → List CheckedFn → Result (List CheckedFn) RuleRefusal → Type 0
+StepsOver text i done (Ok more) = (rest : List Item) → check_items text (i ∷ rest) done ≡ check_items text rest more
+StepsOver text i done (Err e) = (rest : List Item) → e ≢ rule.Memory → check_items text (i ∷ rest) done ≡ Err (fault_in e)

@@ -2,12 +2,12 @@
 ghost use Rattle.std.specs.Prelude.{◌≡◌, Some, IfOk};
 ghost use Rattle.checked_tree.specs.declared.statements.CheckedStmt.TheVariants as statement;
 ghost use Rattle.deputy_rules.specs.Calls as calls;
-ghost use Rattle.deputy_rules.specs.Deriving.{Derives, Gives, bind, pure};
+ghost use Rattle.deputy_rules.specs.Deriving.{Derives, Yields, bind, pure};
 ghost use Rattle.deputy_types.specs.Options.{and_then};
 ghost use Rattle.deputy_rules.specs.Statements as spec;
 ghost use Rattle.deputy_rules.specs.Values as values;
 ghost use Rattle.deputy_rules.specs.Values.{value_of as value_in};
-ghost use Rattle.rules_stmt.specs.Fits.{Fits};
+ghost use Rattle.rules_stmt.specs.AreFewSlots.{AreFewSlots};
 
 use crate::arguments::{coerce_value, pass, passed_argument};
 use crate::assign::assign;
@@ -15,7 +15,7 @@ use crate::functions::Functions;
 use crate::kernel::{call, kalloc, kfree};
 use c_tree::{Action, Expr};
 use checked_tree::{CheckedExpr, CheckedStmt, Shape};
-use deputy_rules::{Asked, Derived, Passed, Refusal, Returned, UnionPlace, Value};
+use deputy_rules::{Asked, Derived, Passed, DerivingRefusal, Returned, UnionPlace, Value};
 use rules_expr::{Context, derive, field_form, of_slots, value_of};
 use sqlite_items::{Boxed, Items};
 use std::alloc::{AllocError, Global};
@@ -63,18 +63,18 @@ fn zero_of(
     ctx: &Context<'_>,
     derived: Derived,
     asked: &mut Items<Asked>,
-) -> Result<CheckedStmt, Refusal>
+) -> Result<CheckedStmt, DerivingRefusal>
     ensures { Derives (spec.zero_of ctx.now derived asked.old) result asked.new }
 {
     match derived {
         Derived::Union(place) => match ctx.types.union_shape(place.structure, place.part) {
             Some(union) => Ok(clear(alloc, ctx, place, union.offset, union.size)?),
-            None => Err(Refusal::NoRule),
+            None => Err(DerivingRefusal::NoRule),
         },
-        Derived::Local(_) => Err(Refusal::NoRule),
-        Derived::Place(_) => Err(Refusal::NoRule),
-        Derived::Value(_) => Err(Refusal::NoRule),
-        Derived::Array(_) => Err(Refusal::NoRule),
+        Derived::Local(_) => Err(DerivingRefusal::NoRule),
+        Derived::Place(_) => Err(DerivingRefusal::NoRule),
+        Derived::Value(_) => Err(DerivingRefusal::NoRule),
+        Derived::Array(_) => Err(DerivingRefusal::NoRule),
     }
 }
 
@@ -85,7 +85,7 @@ fn zero(
     ctx: &Context<'_>,
     l: &Expr,
     asked: &mut Items<Asked>,
-) -> Result<CheckedStmt, Refusal>
+) -> Result<CheckedStmt, DerivingRefusal>
     ensures { Derives (spec.zero ctx.now l.now asked.old) result asked.new }
 {
     let derived = derive(alloc, ctx, l, asked)?;
@@ -100,7 +100,7 @@ fn return_passed(
     shape: &Shape,
     passed: &Passed,
     asked: &mut Items<Asked>,
-) -> Result<CheckedStmt, Refusal>
+) -> Result<CheckedStmt, DerivingRefusal>
     ensures { Derives
         (bind (calls.coerce_value ctx.now values.of_slots shape.now passed.now)
         (λ ids. pure (statement.Return ctx.now.line (Some (calls.passed_argument passed.now)) ids)) asked.old)
@@ -123,7 +123,7 @@ fn return_value(
     shape: &Shape,
     e: &Expr,
     asked: &mut Items<Asked>,
-) -> Result<CheckedStmt, Refusal>
+) -> Result<CheckedStmt, DerivingRefusal>
     ensures { Derives (spec.return_value ctx.now shape.now e.now asked.old) result asked.new }
 {
     let derived = derive(alloc, ctx, e, asked)?;
@@ -139,12 +139,12 @@ fn return_from(
     returned: &Returned,
     e: &Option<Boxed<Expr>>,
     asked: &mut Items<Asked>,
-) -> Result<CheckedStmt, Refusal>
+) -> Result<CheckedStmt, DerivingRefusal>
     ensures { Derives (spec.return_from ctx.now returned.now e.now asked.old) result asked.new }
 {
     match returned {
         Returned::Nothing => match e {
-            Some(_) => Err(Refusal::NoRule),
+            Some(_) => Err(DerivingRefusal::NoRule),
             None => Ok(CheckedStmt::Return {
                 line: ctx.line,
                 value: None,
@@ -153,7 +153,7 @@ fn return_from(
         },
         Returned::Value(shape) => match e {
             Some(value) => return_value(alloc, ctx, shape, value.get(), asked),
-            None => Err(Refusal::NoRule),
+            None => Err(DerivingRefusal::NoRule),
         },
     }
 }
@@ -166,8 +166,8 @@ pub(crate) fn act(
     home: &Home<'_>,
     action: &Action,
     asked: &mut Items<Asked>,
-) -> Result<CheckedStmt, Refusal>
-    requires { Fits ctx.now.table ctx.now.slots }
+) -> Result<CheckedStmt, DerivingRefusal>
+    requires { AreFewSlots ctx.now.table ctx.now.slots }
     ensures { Derives (spec.act ctx.now home.now action.now asked.old) result asked.new }
 {
     match action {
@@ -192,19 +192,19 @@ pub(crate) fn act(
 }
 
 /// The form of an integer or pointer expression that is tested.
-fn test_form(value: Value) -> Result<Boxed<CheckedExpr>, Refusal>
-    ensures { Gives (spec.test_form value) result }
+fn test_form(value: Value) -> Result<Boxed<CheckedExpr>, DerivingRefusal>
+    ensures { Yields (spec.test_form value) result }
 {
     match value {
         Value::Int(w) => Ok(w.form),
         Value::Pointer(p) => Ok(p.form),
-        Value::Null => Err(Refusal::NoRule),
+        Value::Null => Err(DerivingRefusal::NoRule),
     }
 }
 
 /// The same of what was derived.
-fn tested(alloc: Global, ctx: &Context<'_>, derived: Derived) -> Result<Boxed<CheckedExpr>, Refusal>
-    ensures { Gives (and_then (value_in ctx.now derived) spec.test_form) result }
+fn tested(alloc: Global, ctx: &Context<'_>, derived: Derived) -> Result<Boxed<CheckedExpr>, DerivingRefusal>
+    ensures { Yields (and_then (value_in ctx.now derived) spec.test_form) result }
 {
     let value = value_of(alloc, ctx, derived)?;
     test_form(value)
@@ -217,7 +217,7 @@ pub(crate) fn controlling(
     ctx: &Context<'_>,
     e: &Expr,
     asked: &mut Items<Asked>,
-) -> Result<Boxed<CheckedExpr>, Refusal>
+) -> Result<Boxed<CheckedExpr>, DerivingRefusal>
     ensures { Derives (spec.controlling ctx.now e.now asked.old) result asked.new }
 {
     let derived = derive(alloc, ctx, e, asked)?;

@@ -1,7 +1,7 @@
 //! The arguments of a call: each as its parameter takes it, and the coercions to the parameters' types.
 ghost use Rattle.std.specs.Prelude.{◌≡◌, [], map, IfOk};
 ghost use Rattle.deputy_rules.specs.Calls as spec;
-ghost use Rattle.deputy_rules.specs.Deriving.{Derives, Gives};
+ghost use Rattle.deputy_rules.specs.Deriving.{Derives, Yields};
 ghost use Rattle.deputy_types.specs.Options.{and_then};
 ghost use Rattle.checked_tree.specs.declared.shapes.Shape.TheVariants as shaped;
 
@@ -9,7 +9,7 @@ use crate::coerce::coerce_to;
 use crate::convert::{converted_side, handed};
 use c_tree::Expr;
 use checked_tree::{Argument, Bounds, Scalar, Shape, Sum};
-use deputy_rules::{Asked, Derived, Handed, Names, Naming, Passed, Refusal};
+use deputy_rules::{Asked, Derived, Handed, Names, Naming, Passed, DerivingRefusal};
 use rules_expr::{
     Context, Ids, copy_form, copy_part, copy_sum, derive, integer_of, is_nullterm, sum_of,
 };
@@ -23,8 +23,8 @@ fn pass_integer(
     ctx: &Context<'_>,
     scalar: Scalar,
     value: Derived,
-) -> Result<Passed, Refusal>
-    ensures { Gives (spec.pass ctx.now (shaped.Int scalar) value) result }
+) -> Result<Passed, DerivingRefusal>
+    ensures { Yields (spec.pass ctx.now (shaped.Int scalar) value) result }
 {
     let w = integer_of(alloc, ctx, value)?;
     let side = converted_side(alloc, scalar, &w)?;
@@ -43,15 +43,15 @@ fn pass_pointer(
     elem: u32,
     bounds: &Bounds,
     value: Derived,
-) -> Result<Passed, Refusal>
-    ensures { Gives (spec.pass ctx.now (shaped.Pointer elem bounds.now) value) result }
+) -> Result<Passed, DerivingRefusal>
+    ensures { Yields (spec.pass ctx.now (shaped.Pointer elem bounds.now) value) result }
 {
     match ctx.types.element_at(elem) {
         Some(key) => {
             let h = handed(alloc, ctx, key, is_nullterm(bounds), value)?;
             Ok(Passed::Pointer(h))
         }
-        None => Err(Refusal::NoRule),
+        None => Err(DerivingRefusal::NoRule),
     }
 }
 
@@ -62,14 +62,14 @@ pub(crate) fn pass(
     ctx: &Context<'_>,
     shape: &Shape,
     value: Derived,
-) -> Result<Passed, Refusal>
-    ensures { Gives (spec.pass ctx.now shape.now value) result }
+) -> Result<Passed, DerivingRefusal>
+    ensures { Yields (spec.pass ctx.now shape.now value) result }
 {
     match shape {
         Shape::Int(scalar) => pass_integer(alloc, ctx, *scalar, value),
         Shape::Pointer { elem, bounds } => pass_pointer(alloc, ctx, *elem, bounds, value),
-        Shape::Struct(_) => Err(Refusal::NoRule),
-        Shape::Address => Err(Refusal::NoRule),
+        Shape::Struct(_) => Err(DerivingRefusal::NoRule),
+        Shape::Address => Err(DerivingRefusal::NoRule),
     }
 }
 
@@ -79,12 +79,12 @@ fn pass_to(
     ctx: &Context<'_>,
     shape: &Option<Shape>,
     value: Derived,
-) -> Result<Passed, Refusal>
-    ensures { Gives (and_then shape.now (λ y. spec.pass ctx.now y value)) result }
+) -> Result<Passed, DerivingRefusal>
+    ensures { Yields (and_then shape.now (λ y. spec.pass ctx.now y value)) result }
 {
     match shape {
         Some(found) => pass(alloc, ctx, found, value),
-        None => Err(Refusal::NoRule),
+        None => Err(DerivingRefusal::NoRule),
     }
 }
 
@@ -96,7 +96,7 @@ fn pass_one(
     shape: &Option<Shape>,
     e: &Expr,
     asked: &mut Items<Asked>,
-) -> Result<Passed, Refusal>
+) -> Result<Passed, DerivingRefusal>
     ensures { Derives (spec.pass_one ctx.now shape.now e.now asked.old) result asked.new }
 {
     let value = derive(alloc, ctx, e, asked)?;
@@ -111,7 +111,7 @@ pub(crate) fn pass_each(
     params: &[Option<Shape>],
     args: &[Expr],
     asked: &mut Items<Asked>,
-) -> Result<Items<Passed>, Refusal>
+) -> Result<Items<Passed>, DerivingRefusal>
     ensures { Derives (spec.pass_each ctx.now params.now args.now [] asked.old) result asked.new }
 {
     let mut done = Items::new(alloc);
@@ -122,12 +122,12 @@ pub(crate) fn pass_each(
                 done.push(pass_one(alloc, ctx, shape, e, asked)?)?;
                 rest = more;
             }
-            [] => return Err(Refusal::NoRule),
+            [] => return Err(DerivingRefusal::NoRule),
         }
     }
     match rest {
         [] => Ok(done),
-        [_, ..] => Err(Refusal::NoRule),
+        [_, ..] => Err(DerivingRefusal::NoRule),
     }
 }
 
@@ -210,13 +210,13 @@ fn coerce_shape(
     shape: &Shape,
     h: &Handed,
     asked: &mut Items<Asked>,
-) -> Result<Ids, Refusal>
+) -> Result<Ids, DerivingRefusal>
     ensures { Derives (spec.coerce_shape ctx.now naming.now shape.now h.now asked.old) result asked.new }
 {
     match shape {
         Shape::Pointer { elem, bounds } => match ctx.types.element_at(*elem) {
             Some(key) => coerce_to(alloc, ctx, naming, key, bounds, h, asked),
-            None => Err(Refusal::NoRule),
+            None => Err(DerivingRefusal::NoRule),
         },
         Shape::Int(_) => Ok(Items::new(alloc)),
         Shape::Struct(_) => Ok(Items::new(alloc)),
@@ -233,7 +233,7 @@ pub(crate) fn coerce_value(
     shape: &Shape,
     passed: &Passed,
     asked: &mut Items<Asked>,
-) -> Result<Ids, Refusal>
+) -> Result<Ids, DerivingRefusal>
     ensures { Derives (spec.coerce_value ctx.now naming.now shape.now passed.now asked.old) result asked.new }
 {
     match passed {
@@ -254,7 +254,7 @@ fn coerce_passed(
     shape: &Option<Shape>,
     passed: &Passed,
     asked: &mut Items<Asked>,
-) -> Result<Ids, Refusal>
+) -> Result<Ids, DerivingRefusal>
     ensures { Derives (spec.coerce_passed ctx.now naming.now shape.now passed.now asked.old) result asked.new }
 {
     match shape {
@@ -272,7 +272,7 @@ pub(crate) fn coerce_each(
     params: &[Option<Shape>],
     args: &[Passed],
     asked: &mut Items<Asked>,
-) -> Result<Ids, Refusal>
+) -> Result<Ids, DerivingRefusal>
     ensures { Derives (spec.coerce_each ctx.now naming.now params.now args.now [] asked.old) result asked.new }
 {
     let mut ids = Items::new(alloc);

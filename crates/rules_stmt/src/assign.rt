@@ -5,7 +5,7 @@ ghost use Rattle.deputy_rules.specs.Coercion as coercion;
 ghost use Rattle.deputy_rules.specs.Context.{slot_shape};
 ghost use Rattle.deputy_rules.specs.Deriving.{Derives, bind, lift};
 ghost use Rattle.deputy_rules.specs.Values.{integer_of as integer_in};
-ghost use Rattle.rules_stmt.specs.Fits.{Fits};
+ghost use Rattle.rules_stmt.specs.AreFewSlots.{AreFewSlots};
 
 use crate::changes::slot_changes;
 use crate::coerce::coerce_to;
@@ -13,7 +13,7 @@ use crate::convert::{converted_side, handed};
 use crate::store::store;
 use c_tree::Expr;
 use checked_tree::{Bounds, CheckedStmt, PointerOperand, Scalar, Shape};
-use deputy_rules::{Asked, Derived, Handed, Refusal, Whole};
+use deputy_rules::{Asked, Derived, Handed, DerivingRefusal, Whole};
 use deputy_types::Element;
 use rules_expr::{Context, derive, integer_of, of_slots, sum_of};
 use sqlite_items::Items;
@@ -28,8 +28,8 @@ fn assign_integer(
     scalar: Scalar,
     w: Whole,
     asked: &mut Items<Asked>,
-) -> Result<CheckedStmt, Refusal>
-    requires { Fits ctx.now.table ctx.now.slots }
+) -> Result<CheckedStmt, DerivingRefusal>
+    requires { AreFewSlots ctx.now.table ctx.now.slots }
     ensures { Derives (spec.assign_integer ctx.now slot scalar w asked.old) result asked.new }
 {
     let new = sum_of(alloc, converted_side(alloc, scalar, &w)?)?;
@@ -52,8 +52,8 @@ fn assign_number(
     scalar: Scalar,
     value: Derived,
     asked: &mut Items<Asked>,
-) -> Result<CheckedStmt, Refusal>
-    requires { Fits ctx.now.table ctx.now.slots }
+) -> Result<CheckedStmt, DerivingRefusal>
+    requires { AreFewSlots ctx.now.table ctx.now.slots }
     ensures { Derives (bind (lift (integer_in ctx.now value)) (spec.assign_integer ctx.now slot scalar) asked.old) result asked.new }
 {
     let w = integer_of(alloc, ctx, value)?;
@@ -68,12 +68,12 @@ fn assign_automatic(
     slot: u32,
     h: Handed,
     asked: &mut Items<Asked>,
-) -> Result<CheckedStmt, Refusal>
-    requires { Fits ctx.now.table ctx.now.slots }
+) -> Result<CheckedStmt, DerivingRefusal>
+    requires { AreFewSlots ctx.now.table ctx.now.slots }
     ensures { Derives (spec.assign_automatic ctx.now slot h asked.old) result asked.new }
 {
     let Some(hidden) = ctx.locals.hidden(slot) else {
-        return Err(Refusal::NoRule);
+        return Err(DerivingRefusal::NoRule);
     };
     let checks = slot_changes(alloc, ctx, slot, h.at, asked)?;
     Ok(CheckedStmt::AssignAutomatic {
@@ -99,8 +99,8 @@ fn assign_annotated(
     bounds: &Bounds,
     h: Handed,
     asked: &mut Items<Asked>,
-) -> Result<CheckedStmt, Refusal>
-    requires { Fits ctx.now.table ctx.now.slots }
+) -> Result<CheckedStmt, DerivingRefusal>
+    requires { AreFewSlots ctx.now.table ctx.now.slots }
     ensures { Derives (spec.assign_annotated ctx.now slot key bounds.now h asked.old) result asked.new }
 {
     let mut checks = coerce_to(alloc, ctx, &of_slots(), key, bounds, &h, asked)?;
@@ -123,8 +123,8 @@ fn assign_hidden(
     key: Element,
     value: Derived,
     asked: &mut Items<Asked>,
-) -> Result<CheckedStmt, Refusal>
-    requires { Fits ctx.now.table ctx.now.slots }
+) -> Result<CheckedStmt, DerivingRefusal>
+    requires { AreFewSlots ctx.now.table ctx.now.slots }
     ensures { Derives (bind (lift (coercion.handed ctx.now key false value)) (spec.assign_automatic ctx.now slot) asked.old) result asked.new }
 {
     let h = handed(alloc, ctx, key, false, value)?;
@@ -142,8 +142,8 @@ fn assign_bounded(
     nullterm: bool,
     value: Derived,
     asked: &mut Items<Asked>,
-) -> Result<CheckedStmt, Refusal>
-    requires { Fits ctx.now.table ctx.now.slots }
+) -> Result<CheckedStmt, DerivingRefusal>
+    requires { AreFewSlots ctx.now.table ctx.now.slots }
     ensures { Derives (bind (lift (coercion.handed ctx.now key nullterm value)) (spec.assign_annotated ctx.now slot key bounds.now) asked.old) result asked.new }
 {
     let h = handed(alloc, ctx, key, nullterm, value)?;
@@ -160,8 +160,8 @@ fn assign_pointer(
     bounds: &Bounds,
     value: Derived,
     asked: &mut Items<Asked>,
-) -> Result<CheckedStmt, Refusal>
-    requires { Fits ctx.now.table ctx.now.slots }
+) -> Result<CheckedStmt, DerivingRefusal>
+    requires { AreFewSlots ctx.now.table ctx.now.slots }
     ensures { Derives (spec.assign_pointer ctx.now slot key bounds.now value asked.old) result asked.new }
 {
     match bounds {
@@ -182,18 +182,18 @@ fn assign_local(
     value: Derived,
     shape: &Shape,
     asked: &mut Items<Asked>,
-) -> Result<CheckedStmt, Refusal>
-    requires { Fits ctx.now.table ctx.now.slots }
+) -> Result<CheckedStmt, DerivingRefusal>
+    requires { AreFewSlots ctx.now.table ctx.now.slots }
     ensures { Derives (spec.assign_local ctx.now slot value shape.now asked.old) result asked.new }
 {
     match shape {
         Shape::Int(scalar) => assign_number(alloc, ctx, slot, *scalar, value, asked),
         Shape::Pointer { elem, bounds } => match ctx.types.element_at(*elem) {
             Some(key) => assign_pointer(alloc, ctx, slot, key, bounds, value, asked),
-            None => Err(Refusal::NoRule),
+            None => Err(DerivingRefusal::NoRule),
         },
-        Shape::Struct(_) => Err(Refusal::NoRule),
-        Shape::Address => Err(Refusal::NoRule),
+        Shape::Struct(_) => Err(DerivingRefusal::NoRule),
+        Shape::Address => Err(DerivingRefusal::NoRule),
     }
 }
 
@@ -205,13 +205,13 @@ fn assign_slot(
     slot: u32,
     value: Derived,
     asked: &mut Items<Asked>,
-) -> Result<CheckedStmt, Refusal>
-    requires { Fits ctx.now.table ctx.now.slots }
+) -> Result<CheckedStmt, DerivingRefusal>
+    requires { AreFewSlots ctx.now.table ctx.now.slots }
     ensures { Derives (bind (lift (slot_shape ctx.now slot)) (spec.assign_local ctx.now slot value) asked.old) result asked.new }
 {
     match ctx.slot_shape(slot) {
         Some(shape) => assign_local(alloc, ctx, slot, value, shape, asked),
-        None => Err(Refusal::NoRule),
+        None => Err(DerivingRefusal::NoRule),
     }
 }
 
@@ -223,16 +223,16 @@ fn assign_to(
     value: Derived,
     target: Derived,
     asked: &mut Items<Asked>,
-) -> Result<CheckedStmt, Refusal>
-    requires { Fits ctx.now.table ctx.now.slots }
+) -> Result<CheckedStmt, DerivingRefusal>
+    requires { AreFewSlots ctx.now.table ctx.now.slots }
     ensures { Derives (spec.assign_to ctx.now value target asked.old) result asked.new }
 {
     match target {
         Derived::Local(slot) => assign_slot(alloc, ctx, slot, value, asked),
         Derived::Place(place) => store(alloc, ctx, place, value, asked),
-        Derived::Value(_) => Err(Refusal::NoRule),
-        Derived::Array(_) => Err(Refusal::NoRule),
-        Derived::Union(_) => Err(Refusal::NoRule),
+        Derived::Value(_) => Err(DerivingRefusal::NoRule),
+        Derived::Array(_) => Err(DerivingRefusal::NoRule),
+        Derived::Union(_) => Err(DerivingRefusal::NoRule),
     }
 }
 
@@ -245,8 +245,8 @@ pub(crate) fn assign(
     l: &Expr,
     e: &Expr,
     asked: &mut Items<Asked>,
-) -> Result<CheckedStmt, Refusal>
-    requires { Fits ctx.now.table ctx.now.slots }
+) -> Result<CheckedStmt, DerivingRefusal>
+    requires { AreFewSlots ctx.now.table ctx.now.slots }
     ensures { Derives (spec.assign ctx.now l.now e.now asked.old) result asked.new }
 {
     let value = derive(alloc, ctx, e, asked)?;

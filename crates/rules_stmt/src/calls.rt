@@ -9,7 +9,7 @@ use crate::functions::Functions;
 use crate::targets::call_target;
 use c_tree::Expr;
 use checked_tree::{CheckedStmt, Target};
-use deputy_rules::{Asked, Passed, Refusal, Signature};
+use deputy_rules::{Asked, Passed, DerivingRefusal, Signature};
 use rules_expr::Context;
 use sd_base::Name;
 use sqlite_items::Items;
@@ -25,7 +25,7 @@ fn call_passed(
     f: &Signature,
     args: &[Passed],
     asked: &mut Items<Asked>,
-) -> Result<CheckedStmt, Refusal>
+) -> Result<CheckedStmt, DerivingRefusal>
     ensures { Derives
         (bind (spec.coerce_each ctx.now (spec.of_arguments args.now) f.now.params args.now [])
         (λ ids. pure (statement.Call ctx.now.line target number (map spec.passed_argument args.now) ids)) asked.old)
@@ -53,7 +53,7 @@ fn call_function(
     x: Option<&Name>,
     args: &[Expr],
     asked: &mut Items<Asked>,
-) -> Result<CheckedStmt, Refusal>
+) -> Result<CheckedStmt, DerivingRefusal>
     ensures { Derives (spec.call_function ctx.now number f.now (option_copied x.entry) args.now asked.old) result asked.new }
 {
     match call_target(ctx, f.result.as_ref(), x) {
@@ -61,7 +61,7 @@ fn call_function(
             let passed = pass_each(alloc, ctx, f.params.as_slice(), args, asked)?;
             call_passed(alloc, ctx, target, number, f, passed.as_slice(), asked)
         }
-        None => Err(Refusal::NoRule),
+        None => Err(DerivingRefusal::NoRule),
     }
 }
 
@@ -75,12 +75,12 @@ fn call_numbered(
     x: Option<&Name>,
     args: &[Expr],
     asked: &mut Items<Asked>,
-) -> Result<CheckedStmt, Refusal>
+) -> Result<CheckedStmt, DerivingRefusal>
     ensures { Derives (spec.call_numbered ctx.now functions.now number (option_copied x.entry) args.now asked.old) result asked.new }
 {
     match functions.get(number) {
         Some(f) => call_function(alloc, ctx, number, f, x, args, asked),
-        None => Err(Refusal::NoRule),
+        None => Err(DerivingRefusal::NoRule),
     }
 }
 
@@ -95,11 +95,11 @@ pub(crate) fn call_named(
     x: Option<&Name>,
     args: &[Expr],
     asked: &mut Items<Asked>,
-) -> Result<CheckedStmt, Refusal>
+) -> Result<CheckedStmt, DerivingRefusal>
     ensures { Derives (spec.call_named ctx.now functions.now name.now (option_copied x.entry) args.now asked.old) result asked.new }
 {
     match functions.number(name) {
         Some(number) => call_numbered(alloc, ctx, functions, number, x, args, asked),
-        None => Err(Refusal::NoRule),
+        None => Err(DerivingRefusal::NoRule),
     }
 }

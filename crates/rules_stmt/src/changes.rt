@@ -4,11 +4,11 @@ ghost use Rattle.std.specs.Prelude.{◌≡◌, ◌<◌, ◌^◌, length, if◌th
 ghost use Rattle.deputy_rules.specs.Changes as spec;
 ghost use Rattle.deputy_rules.specs.Deriving.{Derives, bind, lift};
 ghost use Rattle.deputy_types.specs.Table as table;
-ghost use Rattle.rules_stmt.specs.Fits.{Fits};
+ghost use Rattle.rules_stmt.specs.AreFewSlots.{AreFewSlots};
 
 use crate::coerce::{Fit, coerce};
 use checked_tree::{Bounds, CheckedExpr, Member, Part, Scalar, Shape, Sum, UnionShape};
-use deputy_rules::{Asked, AskedCond, Change, Names, Naming, Place, Refusal};
+use deputy_rules::{Asked, AskedCond, Change, Names, Naming, Place, DerivingRefusal};
 use deputy_types::{Element, TypeTable, bounds_name};
 use rules_expr::{
     Context, Ids, ask, atom_part, beyond, container, copy_form, copy_sum, high_sum, load_form,
@@ -58,7 +58,7 @@ fn change_at(
     key: Element,
     at: Sum,
     asked: &mut Items<Asked>,
-) -> Result<Ids, Refusal>
+) -> Result<Ids, DerivingRefusal>
     ensures { Derives (spec.change_at ctx.now update.now.before update.now.after bounds.now key at asked.old) result asked.new }
 {
     let low = low_sum(alloc, ctx, &update.before, copy_sum(alloc, &at)?, bounds)?;
@@ -87,7 +87,7 @@ fn pointer_change(
     bounds: &Bounds,
     key: Element,
     asked: &mut Items<Asked>,
-) -> Result<Ids, Refusal>
+) -> Result<Ids, DerivingRefusal>
     ensures { Derives (spec.pointer_change ctx.now update.now.before update.now.after i bounds.now key asked.old) result asked.new }
 {
     let at = name_sum(alloc, ctx, &update.before, i)?;
@@ -104,14 +104,14 @@ fn elem_change(
     elem: u32,
     bounds: &Bounds,
     asked: &mut Items<Asked>,
-) -> Result<Ids, Refusal>
+) -> Result<Ids, DerivingRefusal>
     ensures { Derives
         (bind (lift (table.element_at ctx.now.table elem)) (spec.pointer_change ctx.now update.now.before update.now.after i bounds.now) asked.old)
         result asked.new }
 {
     match ctx.types.element_at(elem) {
         Some(key) => pointer_change(alloc, ctx, update, i, bounds, key, asked),
-        None => Err(Refusal::NoRule),
+        None => Err(DerivingRefusal::NoRule),
     }
 }
 
@@ -124,7 +124,7 @@ fn sibling_change(
     i: u32,
     shape: &Shape,
     asked: &mut Items<Asked>,
-) -> Result<Ids, Refusal>
+) -> Result<Ids, DerivingRefusal>
     ensures { Derives (spec.sibling_change ctx.now update.now.before update.now.after update.now.name i shape.now asked.old) result asked.new }
 {
     match shape {
@@ -149,7 +149,7 @@ fn optional_change(
     i: u32,
     shape: &Option<Shape>,
     asked: &mut Items<Asked>,
-) -> Result<Ids, Refusal>
+) -> Result<Ids, DerivingRefusal>
     ensures { Derives (spec.optional_change ctx.now update.now.before update.now.after update.now.name i shape.now asked.old) result asked.new }
 {
     match shape {
@@ -166,7 +166,7 @@ fn each_slot(
     update: &Update,
     shapes: &[Option<Shape>],
     asked: &mut Items<Asked>,
-) -> Result<Ids, Refusal>
+) -> Result<Ids, DerivingRefusal>
     requires { length shapes.now < 2 ^ 32 }
     ensures { Derives (spec.sibling_changes ctx.now update.now.before update.now.after update.now.name 0 shapes.now [] asked.old) result asked.new }
 {
@@ -185,7 +185,7 @@ fn each_member(
     update: &Update,
     members: &[Member],
     asked: &mut Items<Asked>,
-) -> Result<Ids, Refusal>
+) -> Result<Ids, DerivingRefusal>
     requires { length members.now < 2 ^ 32 }
     ensures { Derives (spec.sibling_changes ctx.now update.now.before update.now.after update.now.name 0 (map spec.shape_of members.now) [] asked.old) result asked.new }
 {
@@ -204,8 +204,8 @@ pub(crate) fn slot_changes(
     slot: u32,
     new: Sum,
     asked: &mut Items<Asked>,
-) -> Result<Ids, Refusal>
-    requires { Fits ctx.now.table ctx.now.slots }
+) -> Result<Ids, DerivingRefusal>
+    requires { AreFewSlots ctx.now.table ctx.now.slots }
     ensures { Derives (spec.slot_changes ctx.now slot new asked.old) result asked.new }
 {
     let update = Update {
@@ -247,8 +247,8 @@ pub(crate) fn member_changes(
     member: u32,
     new: Sum,
     asked: &mut Items<Asked>,
-) -> Result<Ids, Refusal>
-    requires { Fits ctx.now.table ctx.now.slots }
+) -> Result<Ids, DerivingRefusal>
+    requires { AreFewSlots ctx.now.table ctx.now.slots }
     ensures { Derives (spec.member_changes ctx.now place.now structure member new asked.old) result asked.new }
 {
     let update = Update {

@@ -6,7 +6,7 @@ ghost use Rattle.deputy_rules.specs.declared.asked.AskedCond.TheVariants as cond
 ghost use Rattle.deputy_rules.specs.Values as values;
 
 use checked_tree::{Bounds, Part, Sum};
-use deputy_rules::{Asked, AskedCond, Handed, Naming, Refusal};
+use deputy_rules::{Asked, AskedCond, Handed, Naming, DerivingRefusal};
 use deputy_types::Element;
 use rules_expr::{Context, Ids, ask, copy_sum, high_sum, low_sum, one, with_part};
 use sd_base::CheckKind;
@@ -37,7 +37,7 @@ fn ask_guarded(
     right: &Sum,
     guard: &Sum,
     asked: &mut Items<Asked>,
-) -> Result<usize, Refusal>
+) -> Result<usize, DerivingRefusal>
     ensures { Derives (asking.ask ctx.now kind (cond.Guarded left.now right.now guard.now) asked.old) result asked.new }
 {
     let left = copy_sum(alloc, left)?;
@@ -55,7 +55,7 @@ fn ask_multiple(
     low: &Sum,
     size: u32,
     asked: &mut Items<Asked>,
-) -> Result<usize, Refusal>
+) -> Result<usize, DerivingRefusal>
     ensures { Derives (asking.ask ctx.now kind (cond.Aligned at.now low.now size at.now) asked.old) result asked.new }
 {
     let value = copy_sum(alloc, at)?;
@@ -80,7 +80,7 @@ fn ask_aligned(
     low: &Sum,
     size: u32,
     asked: &mut Items<Asked>,
-) -> Result<Ids, Refusal>
+) -> Result<Ids, DerivingRefusal>
     ensures { Derives (spec.ask_aligned ctx.now kind at.now low.now size asked.old) result asked.new }
 {
     if 1 < size {
@@ -100,7 +100,7 @@ pub(crate) fn coerce(
     align: CheckKind,
     fit: &Fit,
     asked: &mut Items<Asked>,
-) -> Result<Ids, Refusal>
+) -> Result<Ids, DerivingRefusal>
     ensures { Derives (spec.coerce ctx.now kind align fit.now.at fit.now.low fit.now.high fit.now.lower fit.now.higher fit.now.size asked.old) result asked.new }
 {
     let mut ids = Items::new(alloc);
@@ -122,7 +122,7 @@ fn coerce_within(
     higher: Sum,
     size: u32,
     asked: &mut Items<Asked>,
-) -> Result<Ids, Refusal>
+) -> Result<Ids, DerivingRefusal>
     ensures { Derives (spec.coerce_within ctx.now h.now lower higher size asked.old) result asked.new }
 {
     if h.null {
@@ -149,7 +149,7 @@ fn coerce_bounded(
     bounds: &Bounds,
     h: &Handed,
     asked: &mut Items<Asked>,
-) -> Result<Ids, Refusal>
+) -> Result<Ids, DerivingRefusal>
     ensures { Derives
         (spec.coerce_within ctx.now h.now (values.low_sum ctx.now naming.now h.now.at bounds.now) (values.high_sum ctx.now naming.now h.now.at bounds.now) (values.size_of ctx.now key) asked.old)
         result asked.new }
@@ -169,7 +169,7 @@ pub(crate) fn coerce_to(
     bounds: &Bounds,
     h: &Handed,
     asked: &mut Items<Asked>,
-) -> Result<Ids, Refusal>
+) -> Result<Ids, DerivingRefusal>
     ensures { Derives (spec.coerce_to ctx.now naming.now key bounds.now h.now asked.old) result asked.new }
 {
     match bounds {
@@ -190,7 +190,7 @@ pub(crate) fn coerce_counted(
     count: i64,
     h: &Handed,
     asked: &mut Items<Asked>,
-) -> Result<Ids, Refusal>
+) -> Result<Ids, DerivingRefusal>
     ensures { Derives (spec.coerce_counted ctx.now key count h.now asked.old) result asked.new }
 {
     let size = ctx.size_of(key);

@@ -1,13 +1,13 @@
 //! Conversions: what a type makes of the expression that it is handed.
 ghost use Rattle.std.specs.Prelude.{◌≡◌, ◌&&◌, if◌then◌else◌, Some, None, IfOk};
 ghost use Rattle.deputy_rules.specs.Coercion as spec;
-ghost use Rattle.deputy_rules.specs.Deriving.{Gives};
+ghost use Rattle.deputy_rules.specs.Deriving.{Yields};
 ghost use Rattle.deputy_rules.specs.Operators.{same_truth};
 ghost use Rattle.deputy_rules.specs.Pointers as pointers;
 ghost use Rattle.deputy_types.specs.Types as types;
 
 use checked_tree::{CheckedExpr, Part, Scalar, Unary, converted};
-use deputy_rules::{Derived, Handed, Pointed, Refusal, Value, Whole};
+use deputy_rules::{Derived, Handed, Pointed, DerivingRefusal, Value, Whole};
 use deputy_types::Element;
 use rules_expr::{
     Context, atom_part, constant, constant_of, constant_part, copy_form, is_written, null_form,
@@ -96,13 +96,13 @@ pub(crate) fn null(alloc: Global) -> Result<Handed, AllocError>
 }
 
 /// The number 0 without suffix as the null constant. No rule where it is any other.
-pub(crate) fn null_number(alloc: Global, w: Whole) -> Result<Handed, Refusal>
-    ensures { Gives (if pointers.is_written 0 w.written then Some spec.null else None) result }
+pub(crate) fn null_number(alloc: Global, w: Whole) -> Result<Handed, DerivingRefusal>
+    ensures { Yields (if pointers.is_written 0 w.written then Some spec.null else None) result }
 {
     if is_written(0, w.written) {
         Ok(null(alloc)?)
     } else {
-        Err(Refusal::NoRule)
+        Err(DerivingRefusal::NoRule)
     }
 }
 
@@ -127,13 +127,13 @@ fn is_pointer_to(key: Element, nullterm: bool, p: &Pointed) -> bool
 }
 
 /// A pointer expression, where a pointer to this element is wanted.
-fn handed_pointer(key: Element, nullterm: bool, p: Pointed) -> Result<Handed, Refusal>
-    ensures { Gives (if types.same_element p.elem key && same_truth p.nullterm nullterm then Some (spec.handed_over p) else None) result }
+fn handed_pointer(key: Element, nullterm: bool, p: Pointed) -> Result<Handed, DerivingRefusal>
+    ensures { Yields (if types.same_element p.elem key && same_truth p.nullterm nullterm then Some (spec.handed_over p) else None) result }
 {
     if is_pointer_to(key, nullterm, &p) {
         Ok(handed_over(p))
     } else {
-        Err(Refusal::NoRule)
+        Err(DerivingRefusal::NoRule)
     }
 }
 
@@ -144,8 +144,8 @@ fn handed_value(
     key: Element,
     nullterm: bool,
     value: Value,
-) -> Result<Handed, Refusal>
-    ensures { Gives (spec.handed_value key nullterm value) result }
+) -> Result<Handed, DerivingRefusal>
+    ensures { Yields (spec.handed_value key nullterm value) result }
 {
     match value {
         Value::Null => Ok(null(alloc)?),
@@ -162,8 +162,8 @@ pub(crate) fn handed(
     key: Element,
     nullterm: bool,
     derived: Derived,
-) -> Result<Handed, Refusal>
-    ensures { Gives (spec.handed ctx.now key nullterm derived) result }
+) -> Result<Handed, DerivingRefusal>
+    ensures { Yields (spec.handed ctx.now key nullterm derived) result }
 {
     let value = value_of(alloc, ctx, derived)?;
     handed_value(alloc, key, nullterm, value)

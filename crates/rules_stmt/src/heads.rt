@@ -6,7 +6,7 @@ ghost use Rattle.deputy_rules.specs.Heads as spec;
 use crate::agreement::agree;
 use crate::declared::result_of;
 use crate::head_parameters::is_declared;
-use crate::texts::Text;
+use crate::texts::SeenText;
 use c_tree::{Function, Head, Local, Param};
 use checked_tree::Shape;
 use dep_infer::LocalTable;
@@ -25,7 +25,7 @@ fn agrees_with(structs: &NameList, first: Option<&Head>, h: &Head) -> bool
 }
 
 /// Whether a result is derived, of a head that agrees with the first one of its name.
-fn agreed_stands(alloc: Global, text: &Text<'_>, h: &Head) -> Result<bool, Memory>
+fn agreed_stands(alloc: Global, text: &SeenText<'_>, h: &Head) -> Result<bool, Memory>
     ensures { IfOk result (λ b. b ≡ (spec.agrees_with text.now.table.types.structs (spec.first_head text.now.items h.now.name) h.now && is_some (spec.result_of text.now.table h.now))) }
 {
     if agrees_with(&text.table.types().structs, text.first_head(&h.name), h) {
@@ -41,7 +41,7 @@ fn agreed_stands(alloc: Global, text: &Text<'_>, h: &Head) -> Result<bool, Memor
 /// Whether a head stands: no kernel call and no global has its name, it agrees with the first head of its name, and its result is derived. The only refusal is want of
 /// memory.
 #[tactic(auto, unfolding(deputy_rules::specs::Heads::head_stands))]
-pub(crate) fn head_stands(alloc: Global, text: &Text<'_>, h: &Head) -> Result<bool, Memory>
+pub(crate) fn head_stands(alloc: Global, text: &SeenText<'_>, h: &Head) -> Result<bool, Memory>
     ensures { IfOk result (λ b. b ≡ spec.head_stands text.now h.now) }
 {
     match kernel_named(&h.name) {
@@ -67,7 +67,7 @@ fn is_at(number: Option<u32>, k: usize) -> bool
 #[tactic(auto, unfolding(deputy_rules::specs::Heads::function_stands))]
 pub(crate) fn function_stands(
     alloc: Global,
-    text: &Text<'_>,
+    text: &SeenText<'_>,
     k: usize,
     h: &Head,
 ) -> Result<bool, Memory>

@@ -6,7 +6,7 @@ ghost use Rattle.deputy_types.specs.declared.kernel_calls.ArgumentKind.TheVarian
 ghost use Rattle.deputy_rules.specs.Calls as spec;
 ghost use Rattle.deputy_rules.specs.Coercion as coercion;
 ghost use Rattle.deputy_types.specs.KernelCalls.{kernel_row};
-ghost use Rattle.deputy_rules.specs.Deriving.{Derives, Gives, bind, lift, pure};
+ghost use Rattle.deputy_rules.specs.Deriving.{Derives, Yields, bind, lift, pure};
 ghost use Rattle.deputy_types.specs.Options.{and_then};
 ghost use Rattle.deputy_rules.specs.Values.{value_of as value_in};
 
@@ -18,7 +18,7 @@ use crate::kernel_rows::{answers, argument_kinds};
 use crate::targets::{automatic_target, call_target, free_slot};
 use c_tree::{Expr, TypeName};
 use checked_tree::{Argument, CheckedStmt, KernelName, PointerOperand, Scalar, Shape, Target};
-use deputy_rules::{Asked, Derived, Handed, KernelArguments, Pointed, Refusal, Returned, Value};
+use deputy_rules::{Asked, Derived, Handed, KernelArguments, Pointed, DerivingRefusal, Returned, Value};
 use deputy_types::{ArgumentKind, Element, kernel_named};
 use rules_expr::{Context, derive, integer_of, promoted, value_of};
 use sd_base::Name;
@@ -56,7 +56,7 @@ fn number_argument(
     e: &Expr,
     given: KernelArguments,
     asked: &mut Items<Asked>,
-) -> Result<KernelArguments, Refusal>
+) -> Result<KernelArguments, DerivingRefusal>
     ensures { Derives (spec.kernel_argument ctx.now functions.now argument.Number e.now given asked.old) result asked.new }
 {
     let derived = derive(alloc, ctx, e, asked)?;
@@ -78,7 +78,7 @@ fn text_argument(
     e: &Expr,
     given: KernelArguments,
     asked: &mut Items<Asked>,
-) -> Result<KernelArguments, Refusal>
+) -> Result<KernelArguments, DerivingRefusal>
     ensures { Derives (spec.kernel_argument ctx.now functions.now argument.Text e.now given asked.old) result asked.new }
 {
     let derived = derive(alloc, ctx, e, asked)?;
@@ -96,7 +96,7 @@ fn handler_argument(
     e: &Expr,
     given: KernelArguments,
     asked: &mut Items<Asked>,
-) -> Result<KernelArguments, Refusal>
+) -> Result<KernelArguments, DerivingRefusal>
     ensures { Derives (spec.kernel_argument ctx.now functions.now argument.Handler e.now given asked.old) result asked.new }
 {
     match handler(functions, e) {
@@ -105,7 +105,7 @@ fn handler_argument(
             more.handler = number;
             Ok(more)
         }
-        None => Err(Refusal::NoRule),
+        None => Err(DerivingRefusal::NoRule),
     }
 }
 
@@ -118,7 +118,7 @@ fn kernel_argument(
     e: &Expr,
     given: KernelArguments,
     asked: &mut Items<Asked>,
-) -> Result<KernelArguments, Refusal>
+) -> Result<KernelArguments, DerivingRefusal>
     ensures { Derives (spec.kernel_argument ctx.now functions.now kind e.now given asked.old) result asked.new }
 {
     match kind {
@@ -137,7 +137,7 @@ fn kernel_arguments(
     kinds: &[ArgumentKind],
     args: &[Expr],
     asked: &mut Items<Asked>,
-) -> Result<KernelArguments, Refusal>
+) -> Result<KernelArguments, DerivingRefusal>
     ensures { Derives (spec.kernel_arguments ctx.now functions.now kinds.now args.now spec.no_arguments asked.old) result asked.new }
 {
     let mut given = no_arguments(alloc);
@@ -148,12 +148,12 @@ fn kernel_arguments(
                 given = kernel_argument(alloc, ctx, functions, *kind, e, given, asked)?;
                 rest = more;
             }
-            [] => return Err(Refusal::NoRule),
+            [] => return Err(DerivingRefusal::NoRule),
         }
     }
     match rest {
         [] => Ok(given),
-        [_, ..] => Err(Refusal::NoRule),
+        [_, ..] => Err(DerivingRefusal::NoRule),
     }
 }
 
@@ -207,7 +207,7 @@ fn call_kernel(
     x: Option<&Name>,
     args: &[Expr],
     asked: &mut Items<Asked>,
-) -> Result<CheckedStmt, Refusal>
+) -> Result<CheckedStmt, DerivingRefusal>
     ensures { Derives (spec.call_kernel ctx.now functions.now name (option_copied x.entry) args.now asked.old) result asked.new }
 {
     match kernel_target(ctx, name, x) {
@@ -216,7 +216,7 @@ fn call_kernel(
             let given = kernel_arguments(alloc, ctx, functions, kinds.as_slice(), args, asked)?;
             Ok(kernel_form(ctx, target, name, given))
         }
-        None => Err(Refusal::NoRule),
+        None => Err(DerivingRefusal::NoRule),
     }
 }
 
@@ -231,7 +231,7 @@ pub(crate) fn call(
     name: &Name,
     args: &[Expr],
     asked: &mut Items<Asked>,
-) -> Result<CheckedStmt, Refusal>
+) -> Result<CheckedStmt, DerivingRefusal>
     ensures { Derives (spec.call ctx.now functions.now (option_copied x.entry) name.now args.now asked.old) result asked.new }
 {
     match kernel_named(name) {
@@ -257,7 +257,7 @@ fn counted(
     ctx: &Context<'_>,
     e: &Expr,
     asked: &mut Items<Asked>,
-) -> Result<Argument, Refusal>
+) -> Result<Argument, DerivingRefusal>
     ensures { Derives (spec.counted ctx.now e.now asked.old) result asked.new }
 {
     let derived = derive(alloc, ctx, e, asked)?;
@@ -286,8 +286,8 @@ fn kalloc_form(
     count: Argument,
     elem: u32,
     size: u32,
-) -> Result<CheckedStmt, Refusal>
-    ensures { Gives (Some (statement.Kernel ctx.now.line (Some target) kernel.Kalloc (count ∷ []) None 0 elem size)) result }
+) -> Result<CheckedStmt, DerivingRefusal>
+    ensures { Yields (Some (statement.Kernel ctx.now.line (Some target) kernel.Kalloc (count ∷ []) None 0 elem size)) result }
 {
     let mut arguments = Items::new(alloc);
     arguments.push(count)?;
@@ -312,7 +312,7 @@ fn kalloc_to(
     elem: u32,
     e: &Expr,
     asked: &mut Items<Asked>,
-) -> Result<CheckedStmt, Refusal>
+) -> Result<CheckedStmt, DerivingRefusal>
     ensures { Derives
         (bind (spec.counted ctx.now e.now) (λ a. bind (lift (spec.elem_bytes ctx.now elem)) (λ size.
         pure (statement.Kernel ctx.now.line (Some target) kernel.Kalloc (a ∷ []) None 0 elem size))) asked.old)
@@ -321,7 +321,7 @@ fn kalloc_to(
     let count = counted(alloc, ctx, e, asked)?;
     match elem_bytes(ctx, elem) {
         Some(size) => kalloc_form(alloc, ctx, target, count, elem, size),
-        None => Err(Refusal::NoRule),
+        None => Err(DerivingRefusal::NoRule),
     }
 }
 
@@ -334,24 +334,24 @@ pub(crate) fn kalloc(
     type_name: &TypeName,
     e: &Expr,
     asked: &mut Items<Asked>,
-) -> Result<CheckedStmt, Refusal>
+) -> Result<CheckedStmt, DerivingRefusal>
     ensures { Derives (spec.kalloc ctx.now x.now type_name.now e.now asked.old) result asked.new }
 {
     match ctx.types.elem(type_name) {
         Some(elem) => match kalloc_target(ctx, x, elem) {
             Some(target) => kalloc_to(alloc, ctx, target, elem, e, asked),
-            None => Err(Refusal::NoRule),
+            None => Err(DerivingRefusal::NoRule),
         },
-        None => Err(Refusal::NoRule),
+        None => Err(DerivingRefusal::NoRule),
     }
 }
 
 /// A pointer that is given back: none to text.
-fn freed_pointer(p: Pointed) -> Result<Handed, Refusal>
-    ensures { Gives (if p.nullterm then None else Some (coercion.handed_over p)) result }
+fn freed_pointer(p: Pointed) -> Result<Handed, DerivingRefusal>
+    ensures { Yields (if p.nullterm then None else Some (coercion.handed_over p)) result }
 {
     if p.nullterm {
-        Err(Refusal::NoRule)
+        Err(DerivingRefusal::NoRule)
     } else {
         Ok(handed_over(p))
     }
@@ -359,8 +359,8 @@ fn freed_pointer(p: Pointed) -> Result<Handed, Refusal>
 
 /// A value that is given back: a pointer that is not nullterm, or a null constant.
 #[tactic(auto, unfolding(deputy_rules::specs::Calls::freed_value))]
-fn freed_value(alloc: Global, value: Value) -> Result<Handed, Refusal>
-    ensures { Gives (spec.freed_value value) result }
+fn freed_value(alloc: Global, value: Value) -> Result<Handed, DerivingRefusal>
+    ensures { Yields (spec.freed_value value) result }
 {
     match value {
         Value::Null => Ok(null(alloc)?),
@@ -370,8 +370,8 @@ fn freed_value(alloc: Global, value: Value) -> Result<Handed, Refusal>
 }
 
 /// What was derived, where it is given back.
-fn freed(alloc: Global, ctx: &Context<'_>, derived: Derived) -> Result<Handed, Refusal>
-    ensures { Gives (and_then (value_in ctx.now derived) spec.freed_value) result }
+fn freed(alloc: Global, ctx: &Context<'_>, derived: Derived) -> Result<Handed, DerivingRefusal>
+    ensures { Yields (and_then (value_in ctx.now derived) spec.freed_value) result }
 {
     let value = value_of(alloc, ctx, derived)?;
     freed_value(alloc, value)
@@ -400,7 +400,7 @@ pub(crate) fn kfree(
     ctx: &Context<'_>,
     e: &Expr,
     asked: &mut Items<Asked>,
-) -> Result<CheckedStmt, Refusal>
+) -> Result<CheckedStmt, DerivingRefusal>
     ensures { Derives (spec.kfree ctx.now e.now asked.old) result asked.new }
 {
     let derived = derive(alloc, ctx, e, asked)?;

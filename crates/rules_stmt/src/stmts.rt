@@ -4,7 +4,7 @@ ghost use Rattle.checked_tree.specs.declared.statements.CheckedStmt.TheVariants 
 ghost use Rattle.deputy_rules.specs.Checking.{in_turn};
 ghost use Rattle.deputy_rules.specs.Deriving.{Derives};
 ghost use Rattle.deputy_rules.specs.Statements as spec;
-ghost use Rattle.rules_stmt.specs.Fits.{Fits};
+ghost use Rattle.rules_stmt.specs.AreFewSlots.{AreFewSlots};
 ghost use Rattle.check_numbering.specs.Building.{numbers_of};
 ghost use Rattle.check_numbering.specs.Outcome.{Checks};
 ghost use Rattle.check_numbering.specs.Placed.{placed};
@@ -13,7 +13,7 @@ use crate::actions::{Home, act, controlling};
 use c_tree::{Action, Body, Expr, Simple, Stmt};
 use check_numbering::{Build, RuleRefusal, at_line, number_checks};
 use checked_tree::{CheckedExpr, CheckedStmt};
-use deputy_rules::{Asked, Refusal};
+use deputy_rules::{Asked, DerivingRefusal};
 use rules_expr::Context;
 use sqlite_items::{Boxed, Items};
 use std::alloc::Global;
@@ -27,8 +27,8 @@ fn act_at(
     home: &Home<'_>,
     action: &Action,
     own: &mut Items<Asked>,
-) -> Result<CheckedStmt, Refusal>
-    requires fits { Fits ctx.now.table ctx.now.slots }
+) -> Result<CheckedStmt, DerivingRefusal>
+    requires fits { AreFewSlots ctx.now.table ctx.now.slots }
     requires first { first < 2 ^ 63 }
     ensures { Derives (spec.act (placed ctx.now line first) home.now action.now own.old) result own.new }
 {
@@ -50,7 +50,7 @@ fn controlling_at(
     first: usize,
     e: &Expr,
     own: &mut Items<Asked>,
-) -> Result<Boxed<CheckedExpr>, Refusal>
+) -> Result<Boxed<CheckedExpr>, DerivingRefusal>
     requires { first < 2 ^ 63 }
     ensures { Derives (spec.controlling (placed ctx.now line first) e.now own.old) result own.new }
 {
@@ -72,7 +72,7 @@ fn simple(
     s: &Simple,
     build: &mut Build,
 ) -> Result<CheckedStmt, RuleRefusal>
-    requires { Fits ctx.now.table ctx.now.slots }
+    requires { AreFewSlots ctx.now.table ctx.now.slots }
     ensures { Checks (spec.simple ctx.now home.now s.now (numbers_of build.old)) result (numbers_of build.new) }
 {
     let mut own = Items::new(alloc);
@@ -132,7 +132,7 @@ fn single(
     s: &Simple,
     build: &mut Build,
 ) -> Result<Items<CheckedStmt>, RuleRefusal>
-    requires { Fits ctx.now.table ctx.now.slots }
+    requires { AreFewSlots ctx.now.table ctx.now.slots }
     ensures { Checks (spec.single ctx.now home.now s.now (numbers_of build.old)) result (numbers_of build.new) }
 {
     let mut body = Items::new(alloc);
@@ -167,7 +167,7 @@ fn check_statement(
     statement: &Stmt,
     build: &mut Build,
 ) -> Result<CheckedStmt, RuleRefusal>
-    requires { Fits ctx.now.table ctx.now.slots }
+    requires { AreFewSlots ctx.now.table ctx.now.slots }
     ensures { Checks (spec.check_statement ctx.now home.now statement.now (numbers_of build.old)) result (numbers_of build.new) }
 {
     match statement {
@@ -205,7 +205,7 @@ fn check_body(
     body: &Body,
     build: &mut Build,
 ) -> Result<Items<CheckedStmt>, RuleRefusal>
-    requires { Fits ctx.now.table ctx.now.slots }
+    requires { AreFewSlots ctx.now.table ctx.now.slots }
     ensures { Checks (spec.check_body ctx.now home.now body.now (numbers_of build.old)) result (numbers_of build.new) }
 {
     match body {
@@ -224,7 +224,7 @@ pub(crate) fn check_each(
     list: &[Stmt],
     build: &mut Build,
 ) -> Result<Items<CheckedStmt>, RuleRefusal>
-    requires { Fits ctx.now.table ctx.now.slots }
+    requires { AreFewSlots ctx.now.table ctx.now.slots }
     ensures { Checks (in_turn (map (spec.check_statement ctx.now home.now) list.now) [] (numbers_of build.old)) result (numbers_of build.new) }
 {
     let mut done = Items::new(alloc);

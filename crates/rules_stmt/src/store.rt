@@ -6,14 +6,14 @@ ghost use Rattle.deputy_rules.specs.Coercion as coercion;
 ghost use Rattle.deputy_rules.specs.Deriving as asking;
 ghost use Rattle.deputy_rules.specs.Deriving.{Derives, bind, lift};
 ghost use Rattle.deputy_rules.specs.Values.{address, integer_of as integer_in, is_nullterm as is_text};
-ghost use Rattle.rules_stmt.specs.Fits.{Fits};
+ghost use Rattle.rules_stmt.specs.AreFewSlots.{AreFewSlots};
 
 use crate::changes::{member_changes, present, struct_names};
 use crate::coerce::{coerce_counted, coerce_to};
 use crate::convert::{converted_side, handed};
 use crate::tags::tag_change;
 use checked_tree::{Bounds, CheckedExpr, CheckedStmt, Scalar, Shape};
-use deputy_rules::{Asked, AskedCond, Derived, Handed, Place, Refusal, Source, Whole};
+use deputy_rules::{Asked, AskedCond, Derived, Handed, Place, DerivingRefusal, Source, Whole};
 use deputy_types::Element;
 use rules_expr::{Context, Ids, ask, integer_of, is_nullterm, one, sum_of};
 use sd_base::CheckKind;
@@ -52,7 +52,7 @@ fn store_reaching(
     count: i64,
     h: Handed,
     asked: &mut Items<Asked>,
-) -> Result<CheckedStmt, Refusal>
+) -> Result<CheckedStmt, DerivingRefusal>
     ensures { Derives
         (bind (coercion.coerce_counted ctx.now key count h) (λ ids. asking.pure (statement.Store ctx.now.line address place.form h.form ids)) asked.old)
         result asked.new }
@@ -71,7 +71,7 @@ fn store_counted(
     elem: u32,
     count: i64,
     asked: &mut Items<Asked>,
-) -> Result<CheckedStmt, Refusal>
+) -> Result<CheckedStmt, DerivingRefusal>
     ensures { Derives (spec.store_counted ctx.now place value elem count asked.old) result asked.new }
 {
     match ctx.types.element_at(elem) {
@@ -79,7 +79,7 @@ fn store_counted(
             let h = handed(alloc, ctx, key, false, value)?;
             store_reaching(alloc, ctx, place, key, count, h, asked)
         }
-        None => Err(Refusal::NoRule),
+        None => Err(DerivingRefusal::NoRule),
     }
 }
 
@@ -92,7 +92,7 @@ fn store_text(
     value: Derived,
     elem: u32,
     asked: &mut Items<Asked>,
-) -> Result<CheckedStmt, Refusal>
+) -> Result<CheckedStmt, DerivingRefusal>
     ensures { Derives (spec.store_text ctx.now place value elem asked.old) result asked.new }
 {
     match ctx.types.element_at(elem) {
@@ -100,7 +100,7 @@ fn store_text(
             let h = handed(alloc, ctx, key, true, value)?;
             Ok(store_form(ctx, ADDRESS, place.form, h.form, Items::new(alloc)))
         }
-        None => Err(Refusal::NoRule),
+        None => Err(DerivingRefusal::NoRule),
     }
 }
 
@@ -113,7 +113,7 @@ fn store_integer(
     value: Derived,
     scalar: Scalar,
     asked: &mut Items<Asked>,
-) -> Result<CheckedStmt, Refusal>
+) -> Result<CheckedStmt, DerivingRefusal>
     ensures { Derives (spec.store_integer ctx.now place value scalar asked.old) result asked.new }
 {
     let w = integer_of(alloc, ctx, value)?;
@@ -129,12 +129,12 @@ fn store_element(
     value: Derived,
     key: Element,
     asked: &mut Items<Asked>,
-) -> Result<CheckedStmt, Refusal>
+) -> Result<CheckedStmt, DerivingRefusal>
     ensures { Derives (spec.store_element ctx.now place value key asked.old) result asked.new }
 {
     match key {
         Element::Int(scalar) => store_integer(alloc, ctx, place, value, scalar, asked),
-        Element::Struct(_) => Err(Refusal::NoRule),
+        Element::Struct(_) => Err(DerivingRefusal::NoRule),
         Element::Sentinel(elem) => store_counted(alloc, ctx, place, value, elem, 0, asked),
         Element::Nullterm(elem) => store_text(alloc, ctx, place, value, elem, asked),
         Element::Count(elem, count) => store_counted(alloc, ctx, place, value, elem, count, asked),
@@ -149,7 +149,7 @@ fn store_byte(
     place: Place,
     w: Whole,
     asked: &mut Items<Asked>,
-) -> Result<CheckedStmt, Refusal>
+) -> Result<CheckedStmt, DerivingRefusal>
     ensures { Derives (spec.store_byte ctx.now place w asked.old) result asked.new }
 {
     let new = converted_side(alloc, Scalar::U8, &w)?;
@@ -169,7 +169,7 @@ fn store_character(
     place: Place,
     value: Derived,
     asked: &mut Items<Asked>,
-) -> Result<CheckedStmt, Refusal>
+) -> Result<CheckedStmt, DerivingRefusal>
     ensures { Derives (bind (lift (integer_in ctx.now value)) (spec.store_byte ctx.now place) asked.old) result asked.new }
 {
     let w = integer_of(alloc, ctx, value)?;
@@ -188,8 +188,8 @@ fn store_number(
     scalar: Scalar,
     w: Whole,
     asked: &mut Items<Asked>,
-) -> Result<CheckedStmt, Refusal>
-    requires { Fits ctx.now.table ctx.now.slots }
+) -> Result<CheckedStmt, DerivingRefusal>
+    requires { AreFewSlots ctx.now.table ctx.now.slots }
     ensures { Derives (spec.store_number ctx.now place structure member offset scalar w asked.old) result asked.new }
 {
     let new = sum_of(alloc, converted_side(alloc, scalar, &w)?)?;
@@ -213,8 +213,8 @@ fn store_pointer(
     bounds: &Bounds,
     h: Handed,
     asked: &mut Items<Asked>,
-) -> Result<CheckedStmt, Refusal>
-    requires { Fits ctx.now.table ctx.now.slots }
+) -> Result<CheckedStmt, DerivingRefusal>
+    requires { AreFewSlots ctx.now.table ctx.now.slots }
     ensures { Derives (spec.store_pointer ctx.now place structure member key bounds.now h asked.old) result asked.new }
 {
     let naming = present(struct_names(alloc, &place, structure)?);
@@ -235,8 +235,8 @@ fn store_whole(
     offset: u32,
     scalar: Scalar,
     asked: &mut Items<Asked>,
-) -> Result<CheckedStmt, Refusal>
-    requires { Fits ctx.now.table ctx.now.slots }
+) -> Result<CheckedStmt, DerivingRefusal>
+    requires { AreFewSlots ctx.now.table ctx.now.slots }
     ensures { Derives (bind (lift (integer_in ctx.now value)) (spec.store_number ctx.now place structure member offset scalar) asked.old) result asked.new }
 {
     let w = integer_of(alloc, ctx, value)?;
@@ -257,8 +257,8 @@ fn store_bounded(
     key: Element,
     bounds: &Bounds,
     asked: &mut Items<Asked>,
-) -> Result<CheckedStmt, Refusal>
-    requires { Fits ctx.now.table ctx.now.slots }
+) -> Result<CheckedStmt, DerivingRefusal>
+    requires { AreFewSlots ctx.now.table ctx.now.slots }
     ensures { Derives
         (bind (lift (coercion.handed ctx.now key (is_text bounds.now) value)) (spec.store_pointer ctx.now place structure member key bounds.now) asked.old)
         result asked.new }
@@ -279,8 +279,8 @@ fn store_member(
     offset: u32,
     shape: &Shape,
     asked: &mut Items<Asked>,
-) -> Result<CheckedStmt, Refusal>
-    requires { Fits ctx.now.table ctx.now.slots }
+) -> Result<CheckedStmt, DerivingRefusal>
+    requires { AreFewSlots ctx.now.table ctx.now.slots }
     ensures { Derives (spec.store_member ctx.now place value structure member offset shape.now asked.old) result asked.new }
 {
     match shape {
@@ -293,10 +293,10 @@ fn store_member(
             Some(key) => store_bounded(
                 alloc, ctx, place, value, structure, member, key, bounds, asked,
             ),
-            None => Err(Refusal::NoRule),
+            None => Err(DerivingRefusal::NoRule),
         },
-        Shape::Struct(_) => Err(Refusal::NoRule),
-        Shape::Address => Err(Refusal::NoRule),
+        Shape::Struct(_) => Err(DerivingRefusal::NoRule),
+        Shape::Address => Err(DerivingRefusal::NoRule),
     }
 }
 
@@ -309,8 +309,8 @@ fn store_by(
     value: Derived,
     source: Source,
     asked: &mut Items<Asked>,
-) -> Result<CheckedStmt, Refusal>
-    requires { Fits ctx.now.table ctx.now.slots }
+) -> Result<CheckedStmt, DerivingRefusal>
+    requires { AreFewSlots ctx.now.table ctx.now.slots }
     ensures { Derives (spec.store_by ctx.now place value source asked.old) result asked.new }
 {
     match source {
@@ -328,7 +328,7 @@ fn store_by(
                 &found.shape,
                 asked,
             ),
-            None => Err(Refusal::NoRule),
+            None => Err(DerivingRefusal::NoRule),
         },
     }
 }
@@ -341,8 +341,8 @@ pub(crate) fn store(
     place: Place,
     value: Derived,
     asked: &mut Items<Asked>,
-) -> Result<CheckedStmt, Refusal>
-    requires { Fits ctx.now.table ctx.now.slots }
+) -> Result<CheckedStmt, DerivingRefusal>
+    requires { AreFewSlots ctx.now.table ctx.now.slots }
     ensures { Derives (spec.store ctx.now place value asked.old) result asked.new }
 {
     let source = place.source;

@@ -4,7 +4,7 @@ ghost use Rattle.deputy_rules.specs.Changes as spec;
 ghost use Rattle.deputy_rules.specs.Deriving.{Derives};
 
 use checked_tree::{Part, Scalar, Sum, UnionShape};
-use deputy_rules::{Asked, AskedCond, Place, Refusal};
+use deputy_rules::{Asked, AskedCond, Place, DerivingRefusal};
 use deputy_types::TypeTable;
 use rules_expr::{
     Context, Ids, ask, atom_part, beyond, copy_form, copy_sum, load_form, one, with_part,
@@ -67,7 +67,7 @@ fn ask_kept(
     new: Part,
     union: UnionShape,
     asked: &mut Items<Asked>,
-) -> Result<Ids, Refusal>
+) -> Result<Ids, DerivingRefusal>
     ensures { Derives (spec.ask_kept ctx.now place.now offset scalar new union asked.old) result asked.new }
 {
     let kept = AskedCond::Kept {
@@ -90,7 +90,7 @@ fn optional_kept(
     new: Part,
     union: Option<UnionShape>,
     asked: &mut Items<Asked>,
-) -> Result<Ids, Refusal>
+) -> Result<Ids, DerivingRefusal>
     ensures { Derives (spec.optional_kept ctx.now place.now offset scalar new union asked.old) result asked.new }
 {
     match union {
@@ -111,7 +111,7 @@ pub(crate) fn tag_change(
     scalar: Scalar,
     new: Part,
     asked: &mut Items<Asked>,
-) -> Result<Ids, Refusal>
+) -> Result<Ids, DerivingRefusal>
     ensures { Derives (spec.tag_change ctx.now place.now structure member offset scalar new asked.old) result asked.new }
 {
     let union = tagged_in(ctx.types, structure, member);

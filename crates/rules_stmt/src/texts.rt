@@ -1,9 +1,9 @@
-//! `Text`: a text, as its functions see it.
+//! `SeenText`: a text, as its functions see it.
 ghost use Rattle.std.specs.Prelude.{◌≡◌, ◌<◌, ◌^◌, ◌++◌, ◌∷◌, List, length, map, position, IfOk, option_copied};
 ghost use Rattle.c_tree.specs.declared.items.Item.{Item as Spec};
 ghost use Rattle.deputy_rules.specs.Functions as spec;
 ghost use Rattle.deputy_rules.specs.Heads as heads;
-ghost use Rattle.rules_stmt.specs.Units.{IsLaidOut};
+ghost use Rattle.rules_stmt.specs.Units.{AreFewItems};
 
 use crate::declared::signature_of;
 use crate::first_heads::{head_at, head_places};
@@ -19,7 +19,7 @@ use std::marker::Model;
 ///
 /// Functions, and the first head of each name, are found by hash.
 #[derive(Drop)]
-pub(crate) struct Text<'a> {
+pub(crate) struct SeenText<'a> {
     pub table: &'a TypeTable,
     pub items: &'a [Item],
     pub functions: Functions,
@@ -27,8 +27,8 @@ pub(crate) struct Text<'a> {
     places: IndexMap<Name, usize>,
 }
 
-impl<'a> Model for Text<'a> {
-    ghost use Rattle.deputy_rules.specs.Heads.{Text as Spec};
+impl<'a> Model for SeenText<'a> {
+    ghost use Rattle.deputy_rules.specs.Heads.{SeenText as Spec};
     ghost use Rattle.c_tree.specs.contracts.items.Item as item;
     ghost use Rattle.std.specs.Coded.{codes};
     ghost use Rattle.rules_stmt.specs.Places.{FindsHeads};
@@ -67,7 +67,7 @@ fn with_item(
 
 /// What calls see of the functions of a text with bodies.
 fn functions_of(alloc: Global, table: &TypeTable, items: &[Item]) -> Result<Functions, Memory>
-    requires { IsLaidOut table.now items.now }
+    requires { AreFewItems table.now items.now }
     ensures { IfOk result (λ functions. functions ≡ map (heads.signature_of table.now) (spec.functions_of items.now)) }
 {
     let mut functions = Functions::new(alloc);
@@ -77,20 +77,20 @@ fn functions_of(alloc: Global, table: &TypeTable, items: &[Item]) -> Result<Func
     Ok(functions)
 }
 
-impl<'a> Text<'a> {
+impl<'a> SeenText<'a> {
     /// The text of these items with these types. The only refusal is want of memory.
     #[tactic(auto, unfolding(deputy_rules::specs::Functions::text_of))]
     pub(crate) fn new(
         alloc: Global,
         table: &'a TypeTable,
         items: &'a [Item],
-    ) -> Result<Text<'a>, Memory>
-        requires { IsLaidOut table.now items.now }
+    ) -> Result<SeenText<'a>, Memory>
+        requires { AreFewItems table.now items.now }
         ensures { IfOk result (λ text. text ≡ spec.text_of table.now items.now) }
     {
         let functions = functions_of(alloc, table, items)?;
         let places = head_places(alloc, items)?;
-        Ok(Text {
+        Ok(SeenText {
             table,
             items,
             functions,

@@ -5,8 +5,8 @@ ghost use Rattle.c_tree.specs.ShortUnit.{IsShortFunction, IsShortUnit};
 ghost use Rattle.deputy_rules.specs.Functions as spec;
 ghost use Rattle.deputy_rules.specs.Heads as declared;
 ghost use Rattle.deputy_types.specs.UnitLayout.{layout};
-ghost use Rattle.rules_stmt.specs.Fits.{Fits};
-ghost use Rattle.rules_stmt.specs.Units.{IsChecked, IsLaidOut, IsShortItem, Steps};
+ghost use Rattle.rules_stmt.specs.AreFewSlots.{AreFewSlots};
+ghost use Rattle.rules_stmt.specs.Units.{IsChecked, AreFewItems, IsShortItem, StepsOver};
 
 use crate::actions::Home;
 use crate::declared::{Shapes, parameter_shapes, result_of, slot_shapes};
@@ -15,7 +15,7 @@ use crate::heads::{function_stands, head_stands, wrong_declaration};
 use crate::results::{result_scalar, shapes_of};
 use crate::shape_copies::{copy_blocks, copy_shapes, copy_structs};
 use crate::stmts::check_each;
-use crate::texts::Text;
+use crate::texts::SeenText;
 use c_tree::{Function, Head, Item, LimitKind, Unit};
 use check_numbering::{Build, RuleRefusal};
 use checked_tree::{CheckedFn, CheckedUnit};
@@ -33,11 +33,11 @@ use std::alloc::Global;
 fn check_statements(
     alloc: Global,
     ctx: &Context<'_>,
-    text: &Text<'_>,
+    text: &SeenText<'_>,
     f: &Function,
     returned: &Returned,
 ) -> Result<CheckedFn, RuleRefusal>
-    requires fits { Fits ctx.now.table ctx.now.slots }
+    requires fits { AreFewSlots ctx.now.table ctx.now.slots }
     requires few { length f.now.head.params < 2 ^ 32 }
     ensures { IsChecked (spec.check_statements text.now f.now returned.now ctx.now) result }
 {
@@ -63,11 +63,11 @@ fn check_statements(
 fn check_declared(
     alloc: Global,
     ctx: &Context<'_>,
-    text: &Text<'_>,
+    text: &SeenText<'_>,
     f: &Function,
     returned: &Returned,
 ) -> Result<CheckedFn, RuleRefusal>
-    requires fits { Fits ctx.now.table ctx.now.slots }
+    requires fits { AreFewSlots ctx.now.table ctx.now.slots }
     requires few { length f.now.head.params < 2 ^ 32 }
     ensures { IsChecked
         (spec.check_declared text.now f.now returned.now ctx.now (declared.wrong_declaration ctx.now.locals ctx.now.slots f.now))
@@ -82,12 +82,12 @@ fn check_declared(
 /// The result of a function, then what stands in it.
 fn check_result(
     alloc: Global,
-    text: &Text<'_>,
+    text: &SeenText<'_>,
     f: &Function,
     slots: &Shapes,
 ) -> Result<CheckedFn, RuleRefusal>
     requires short { IsShortFunction f.now }
-    requires fits { Fits text.now.table slots.now }
+    requires fits { AreFewSlots text.now.table slots.now }
     requires few { length f.now.head.params < 2 ^ 32 }
     requires slots { slots.now ≡ declared.slot_shapes text.now.table f.now }
     ensures { IsChecked
@@ -114,12 +114,12 @@ fn check_result(
 #[tactic(auto, unfolding(deputy_rules::specs::Functions::check_function))]
 fn check_function(
     alloc: Global,
-    text: &Text<'_>,
+    text: &SeenText<'_>,
     k: usize,
     f: &Function,
 ) -> Result<CheckedFn, RuleRefusal>
     requires short { IsShortFunction f.now }
-    requires laid { IsLaidOut text.now.table text.now.items }
+    requires laid { AreFewItems text.now.table text.now.items }
     ensures { IsChecked (spec.check_function text.now k f.now) result }
 {
     if !function_stands(alloc, text, k, &f.head)? {
@@ -134,7 +134,7 @@ fn check_function(
 
 /// The line of what does not stand in a prototype.
 #[tactic(auto, unfolding(deputy_rules::specs::Functions::wrong_prototype))]
-fn wrong_prototype(alloc: Global, text: &Text<'_>, h: &Head) -> Result<Option<u32>, Memory>
+fn wrong_prototype(alloc: Global, text: &SeenText<'_>, h: &Head) -> Result<Option<u32>, Memory>
     ensures { IfOk result (λ line. line ≡ spec.wrong_prototype text.now h.now) }
 {
     if head_stands(alloc, text, h)? {
@@ -149,13 +149,13 @@ fn wrong_prototype(alloc: Global, text: &Text<'_>, h: &Head) -> Result<Option<u3
 #[tactic(auto, using(crate::proofs::ItemSteps::function_done, crate::proofs::ItemSteps::function_refused))]
 fn check_next(
     alloc: Global,
-    text: &Text<'_>,
+    text: &SeenText<'_>,
     f: &Function,
     done: Items<CheckedFn>,
 ) -> Result<Items<CheckedFn>, RuleRefusal>
     requires short { IsShortFunction f.now }
-    requires laid { IsLaidOut text.now.table text.now.items }
-    ensures { Steps text.now (kinds.Function f.now) done result }
+    requires laid { AreFewItems text.now.table text.now.items }
+    ensures { StepsOver text.now (kinds.Function f.now) done result }
 {
     let mut more = done;
     let k = more.len();
@@ -166,13 +166,13 @@ fn check_next(
 /// An item, behind the functions that are done.
 fn check_item(
     alloc: Global,
-    text: &Text<'_>,
+    text: &SeenText<'_>,
     item: &Item,
     done: Items<CheckedFn>,
 ) -> Result<Items<CheckedFn>, RuleRefusal>
     requires short { IsShortItem item.now }
-    requires laid { IsLaidOut text.now.table text.now.items }
-    ensures { Steps text.now item.now done result }
+    requires laid { AreFewItems text.now.table text.now.items }
+    ensures { StepsOver text.now item.now done result }
 {
     match item {
         Item::Struct(_) => Ok(done),
@@ -186,9 +186,9 @@ fn check_item(
 }
 
 /// The items in turn.
-fn check_items(alloc: Global, text: &Text<'_>) -> Result<Items<CheckedFn>, RuleRefusal>
+fn check_items(alloc: Global, text: &SeenText<'_>) -> Result<Items<CheckedFn>, RuleRefusal>
     requires short { All IsShortItem text.now.items }
-    requires laid { IsLaidOut text.now.table text.now.items }
+    requires laid { AreFewItems text.now.table text.now.items }
     ensures { IsChecked (spec.check_items text.now text.now.items []) result }
 {
     let mut done = Items::new(alloc);
@@ -206,7 +206,7 @@ pub fn check_unit(alloc: Global, unit: &Unit, types: &TypeTable) -> Result<Check
     requires laid { layout unit.now ≡ Ok types.now }
     ensures { IsChecked (spec.checked types.now unit.now) result }
 {
-    let text = Text::new(alloc, types, unit.items.as_slice())?;
+    let text = SeenText::new(alloc, types, unit.items.as_slice())?;
     let functions = check_items(alloc, &text)?;
     let image = copy_blocks(alloc, types.image())?;
     let structs = copy_structs(alloc, types.structs())?;

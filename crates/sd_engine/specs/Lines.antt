@@ -1,34 +1,71 @@
--- Every line that is printed, one for each item.
-use Rattle.std.specs.Prelude.{ℕ, List, [], ◌∷◌, ◌++◌, ℤ, pos, codes, Option, Some, None}
+-- The line of an item, with its line feed: every line that is printed, one case a line.
+-- Here: line_of, optional_line
+use Rattle.std.specs.Prelude.{ℕ, ◌==◌, List, [], ◌++◌, ℤ, codes, Option, Some, None, if◌then◌else◌}
 use Rattle.std.specs.Fmt.{decimal, signed_decimal}
-use Rattle.driver_front.specs.declared.causes.Cause.{Cause}
-use Rattle.driver_front.specs.Reasons.{spelling_of}
-use Rattle.sd_engine.specs.declared.lines.Printed.{Printed}
-use Rattle.sd_engine.specs.declared.lines.Printed.TheVariants as printed
+use Rattle.sd_base.specs.declared.actors.Who.{Who}
+use Rattle.sd_engine.specs.declared.lines.Item.{Item}
+use Rattle.sd_engine.specs.declared.lines.Item.TheVariants as item
+use Rattle.sd_engine.specs.declared.lines.Obstacle.{Obstacle}
+use Rattle.sd_engine.specs.declared.lines.Obstacle.TheVariants as obstacle
+use Rattle.sd_engine.specs.declared.lines.Order.{Order}
+use Rattle.sd_engine.specs.declared.lines.Order.TheVariants as order
 
--- a line that ends in a number
-abbrev pub number_line : List ℕ → ℤ → List ℕ
-number_line front n = front ++ signed_decimal n ++ 10 ∷ []
+-- d1 to d4, and k for the kernel
+abbrev pub driver : ℕ → List ℕ
+driver k = codes "d" ++ decimal k
 
--- the line that tells of a refusal: the driver's number, the line and the cause
-abbrev pub refusal_line : ℕ → ℕ → Cause → List ℕ
-refusal_line k n c = codes "refused " ++ decimal k ++ codes " " ++ decimal n ++ codes " " ++ spelling_of c ++ 10 ∷ []
+abbrev pub owner : ℕ → List ℕ
+owner o = if o == 0 then codes "k" else driver o
 
--- the line of an item, with its line feed
-abbrev pub line_of : Printed → List ℕ
-line_of (printed.Accepted k) = number_line (codes "accepted ") (pos k)
-line_of (printed.Refused k n c) = refusal_line k n c
-line_of printed.NoScenario = codes "scenario 0\n"
-line_of printed.Loaded = codes "d1 loaded\n"
-line_of printed.LoadedAlready = codes "d1 load refused: loaded\n"
-line_of printed.NoInit = codes "d1 load refused: no init\n"
-line_of printed.Idle = codes "t1 idle\n"
-line_of (printed.Print v) = number_line (codes "d1 t1 print ") v
-line_of (printed.Done v) = number_line (codes "d1 t1 done ") v
-line_of (printed.End n) = number_line (codes "end ") (pos n)
-line_of (printed.Bound n) = number_line (codes "bound ") (pos n)
+abbrev pub task : ℕ → List ℕ
+task t = codes "t" ++ decimal t
+
+-- dK tT
+abbrev pub activity : Who → List ℕ
+activity who = owner who.owner ++ codes " " ++ task who.task
+
+-- what is ordered
+abbrev pub order_word : Order → List ℕ
+order_word order.Load = codes "load"
+
+-- why it is not done
+abbrev pub obstacle_word : Obstacle → List ℕ
+obstacle_word obstacle.Loaded = codes "loaded"
+obstacle_word obstacle.NoInit = codes "no init"
+
+-- a word and a number
+abbrev pub counted : List ℕ → ℕ → List ℕ
+counted word n = word ++ decimal n ++ codes "\n"
+
+-- an activity, what it does, and a number
+abbrev pub said : Who → List ℕ → ℤ → List ℕ
+said who word v = activity who ++ word ++ signed_decimal v ++ codes "\n"
+
+-- a driver's number, the line of its text, and the cause
+abbrev pub refused : ℕ → ℕ → List ℕ → List ℕ
+refused k line cause = codes "refused " ++ decimal k ++ codes " " ++ decimal line ++ codes " " ++ cause ++ codes "\n"
+
+-- an order to a driver that is not carried out
+abbrev pub declined : ℕ → Order → Obstacle → List ℕ
+declined k what why = driver k ++ codes " " ++ order_word what ++ codes " refused: " ++ obstacle_word why ++ codes "\n"
+
+abbrev pub line_of : Item → List ℕ
+-- driver texts and scenarios
+line_of (item.Accepted k) = counted (codes "accepted ") k
+line_of (item.Refused k line cause) = refused k line cause
+line_of (item.Unread line) = counted (codes "scenario ") line
+-- events
+line_of (item.Loaded k) = driver k ++ codes " loaded\n"
+line_of (item.Declined k what why) = declined k what why
+line_of (item.Idle t) = task t ++ codes " idle\n"
+-- activities
+line_of (item.Print who v) = said who (codes " print ") v
+line_of (item.Answered who v) = said who (codes " done ") v
+-- the end
+line_of (item.End steps) = counted (codes "end ") steps
+line_of (item.Bound steps) = counted (codes "bound ") steps
 
 -- the line of an item that is there
-abbrev pub optional_line : Option Printed → List ℕ
+abbrev pub optional_line : Option Item → List ℕ
 optional_line None = []
-optional_line (Some item) = line_of item
+optional_line (Some what) = line_of what

@@ -4,8 +4,8 @@ use Rattle.sd_outside.specs.Sink.{more, IsCut}
 use Rattle.sd_outside.specs.declared.read.TextFault.{TextFault}
 use Rattle.sd_outside.specs.declared.read.TextFault.TheVariants as fault
 use Rattle.driver_front.specs.declared.causes.Cause.{Cause}
-use Rattle.driver_front.specs.Reasons.{IsAccepted, IsRefusedAt}
-use Rattle.sd_engine.specs.declared.lines.Printed.TheVariants as printed
+use Rattle.driver_front.specs.Reasons.{IsAccepted, IsRefusedAt, spelling_of}
+use Rattle.sd_engine.specs.declared.lines.Item.TheVariants as item
 use Rattle.sd_engine.specs.declared.status.Status.{Status}
 use Rattle.sd_engine.specs.declared.status.Status.TheVariants as status
 use Rattle.sd_engine.specs.declared.thin_program.Statement.{Statement}
@@ -30,9 +30,9 @@ pub data Starts (t : List ℕ) : Stage → List Statement → Type 0 where
 
 -- what a run over these two texts writes, and its status where it is written whole
 pub data RunAnswers (scenario driver : List ℕ) : List ℕ → Status → Type 0 where
-  run_refused : {n : ℕ} {c : Cause} → IsNotRun driver n c → RunAnswers scenario driver (line_of (printed.Refused 1 n c)) status.Refused
+  run_refused : {n : ℕ} {c : Cause} → IsNotRun driver n c → RunAnswers scenario driver (line_of (item.Refused 1 n (spelling_of c))) status.Refused
   bad_scenario : {first : Stage} {list : List Statement} → Starts driver first list → ((events : List Event) → IsScenario scenario events → ⊥)
-      → RunAnswers scenario driver (line_of printed.NoScenario) status.BadScenario
+      → RunAnswers scenario driver (line_of (item.Unread 0)) status.BadScenario
   run_done : {first : Stage} {list : List Statement} {events : List Event} → Starts driver first list → IsScenario scenario events
       → RunAnswers scenario driver (lines_from list first events) status.Done
 
@@ -54,11 +54,11 @@ AreShort (t ∷ ts) = (length t ≤ most_bytes) × AreShort ts
 -- a line for each text that is accepted, counted from k
 abbrev pub accepted_lines : ℕ → List (List ℕ) → List ℕ
 accepted_lines k [] = []
-accepted_lines k (t ∷ ts) = line_of (printed.Accepted k) ++ accepted_lines (k + 1) ts
+accepted_lines k (t ∷ ts) = line_of (item.Accepted k) ++ accepted_lines (k + 1) ts
 
 -- what a check of these texts writes, and its status where it is written whole
 pub data CheckAnswers (texts : List (List ℕ)) : List ℕ → Status → Type 0 where
-  check_refused : (k n : ℕ) (c : Cause) → FirstRefused 1 texts k n c → CheckAnswers texts (line_of (printed.Refused k n c)) status.Refused
+  check_refused : (k n : ℕ) (c : Cause) → FirstRefused 1 texts k n c → CheckAnswers texts (line_of (item.Refused k n (spelling_of c))) status.Refused
   accepted : AreAccepted texts → CheckAnswers texts (accepted_lines 1 texts) status.Done
 
 -- what was written, by the status: all of the answer, or a front part of one where a write failed

@@ -1,7 +1,10 @@
 -- The lines of a thin run, from its statements and its events.
 use Rattle.std.specs.Prelude.{ℕ, ◌+◌, nat_lt, Bool, true, false, List, [], ◌∷◌, ◌++◌, pos, Option, Some, None, if◌then◌else◌}
-use Rattle.sd_engine.specs.declared.lines.Printed.{Printed}
-use Rattle.sd_engine.specs.declared.lines.Printed.TheVariants as printed
+use Rattle.sd_base.specs.declared.actors.Who.{Who}
+use Rattle.sd_engine.specs.declared.lines.Item.{Item}
+use Rattle.sd_engine.specs.declared.lines.Item.TheVariants as item
+use Rattle.sd_engine.specs.declared.lines.Obstacle.TheVariants as obstacle
+use Rattle.sd_engine.specs.declared.lines.Order.TheVariants as order
 use Rattle.sd_engine.specs.declared.thin_program.Statement.{Statement}
 use Rattle.sd_engine.specs.declared.thin_program.Statement.TheVariants.{Print, Return, Empty}
 use Rattle.sd_engine.specs.declared.thin_scenario.Event.{Event}
@@ -14,10 +17,14 @@ use Rattle.sd_engine.specs.Lines.{line_of, optional_line}
 abbrev pub most_steps : ℕ
 most_steps = 100000
 
+-- the activity of a thin run: task 1 of the first driver
+abbrev pub thin_task : Who
+thin_task = record { owner = 1; task = 1 }
+
 -- what a statement prints; an empty one nothing
-abbrev pub statement_item : Statement → Option Printed
-statement_item (Print v) = Some (printed.Print v)
-statement_item (Return v) = Some (printed.Done v)
+abbrev pub statement_item : Statement → Option Item
+statement_item (Print v) = Some (item.Print thin_task v)
+statement_item (Return v) = Some (item.Answered thin_task v)
 statement_item Empty = None
 
 abbrev pub statement_line : Statement → List ℕ
@@ -41,11 +48,11 @@ run_stage n [] = if nat_lt n most_steps then Over (n + 1) else Stopped
 run_stage n (s ∷ ss) = if nat_lt n most_steps then (if is_return s then Over (n + 1) else run_stage (n + 1) ss) else Stopped
 
 -- what a load prints at a stage, and the stage after it
-abbrev pub load_item : Stage → Option Printed
-load_item NoInit = Some printed.NoInit
-load_item Absent = Some printed.Loaded
-load_item Ready = Some printed.LoadedAlready
-load_item (Over n) = Some printed.LoadedAlready
+abbrev pub load_item : Stage → Option Item
+load_item NoInit = Some (item.Declined 1 order.Load obstacle.NoInit)
+load_item Absent = Some (item.Loaded 1)
+load_item Ready = Some (item.Declined 1 order.Load obstacle.Loaded)
+load_item (Over n) = Some (item.Declined 1 order.Load obstacle.Loaded)
 load_item Stopped = None
 
 abbrev pub loaded : Stage → Stage
@@ -58,10 +65,10 @@ loaded Stopped = Stopped
 -- the lines of an event at a stage
 abbrev pub event_lines : List Statement → Stage → Event → List ℕ
 event_lines ss stage Load = optional_line (load_item stage)
-event_lines ss NoInit Finish = line_of printed.Idle
-event_lines ss Absent Finish = line_of printed.Idle
+event_lines ss NoInit Finish = line_of (item.Idle 1)
+event_lines ss Absent Finish = line_of (item.Idle 1)
 event_lines ss Ready Finish = run_lines 0 ss
-event_lines ss (Over n) Finish = line_of printed.Idle
+event_lines ss (Over n) Finish = line_of (item.Idle 1)
 event_lines ss Stopped Finish = []
 
 -- the stage after an event
@@ -74,12 +81,12 @@ stage_after ss (Over n) Finish = Over n
 stage_after ss Stopped Finish = Stopped
 
 -- the last line: the steps that were taken to the end, or to the bound
-abbrev pub last_item : Stage → Printed
-last_item NoInit = printed.End 0
-last_item Absent = printed.End 0
-last_item Ready = printed.End 0
-last_item (Over n) = printed.End n
-last_item Stopped = printed.Bound most_steps
+abbrev pub last_item : Stage → Item
+last_item NoInit = item.End 0
+last_item Absent = item.End 0
+last_item Ready = item.End 0
+last_item (Over n) = item.End n
+last_item Stopped = item.Bound most_steps
 
 abbrev pub last_line : Stage → List ℕ
 last_line stage = line_of (last_item stage)

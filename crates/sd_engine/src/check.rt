@@ -3,11 +3,14 @@ ghost use Rattle.std.specs.Prelude.{◌≡◌, ◌≢◌, ◌<◌, ◌≤◌, �
 ghost use Rattle.sd_outside.specs.Counts.{HasCause, Rose};
 ghost use Rattle.sd_outside.specs.Sink.{IsCut, more};
 ghost use Rattle.sd_engine.specs.Serve.{AreAccepted, AreShort, CheckAnswers, FirstRefused, IsAfterTexts, IsWritten, Writes, accepted_lines, most_bytes};
-ghost use Rattle.driver_front.specs.Reasons.{IsAccepted, IsRefusedAt};
+ghost use Rattle.sd_engine.specs.Lines.{line_of};
+ghost use Rattle.sd_engine.specs.declared.lines.Item.TheVariants as item;
+ghost use Rattle.driver_front.specs.Reasons.{IsAccepted, IsRefusedAt, spelling_of};
 
-use crate::lines::{Printed, print_item};
+use crate::lines::{Item, print_item};
 use crate::status::Status;
 use driver_front::{Cause, accept};
+use sd_base::Name;
 use sd_outside::{Sink, WriteFault};
 use std::alloc::{AllocError, Global};
 
@@ -15,7 +18,7 @@ use std::alloc::{AllocError, Global};
 #[derive(Clone, Copy, PartialEq, Eq, Debug)]
 struct RefusedText {
     /// The driver's number, counted from 1.
-    driver: usize,
+    driver: u8,
     /// The line of its text.
     line: u32,
     cause: Cause,
@@ -23,7 +26,8 @@ struct RefusedText {
 
 /// Serves a check whose texts are read: names the first that is refused, or writes a line for each.
 pub fn check_texts<K: Sink>(alloc: Global, texts: &[Vec<u8>], sink: &mut K) -> Status
-    requires { AreShort (map (λ text. text.items) texts.now) }
+    requires short { AreShort (map (λ text. text.items) texts.now) }
+    requires few { length texts.now ≤ 4 }
     ensures possible { IsAfterTexts result }
     ensures write_fault { result ≡ Status.WriteFault → Rose (K.faults sink.old) (K.faults sink.new) }
     ensures writes { result ≢ Status.WriteFault → K.faults sink.new ≡ K.faults sink.old }
@@ -39,12 +43,7 @@ pub fn check_texts<K: Sink>(alloc: Global, texts: &[Vec<u8>], sink: &mut K) -> S
             Err(_) => Status::WriteFault,
         };
     };
-    let item = Printed::Refused {
-        driver: refused.driver,
-        line: refused.line,
-        cause: refused.cause,
-    };
-    match print_item(sink, item) {
+    match print_refusal(sink, refused.driver, refused.line, refused.cause) {
         Ok(()) => Status::Refused,
         Err(_) => Status::WriteFault,
     }
@@ -54,10 +53,10 @@ pub fn check_texts<K: Sink>(alloc: Global, texts: &[Vec<u8>], sink: &mut K) -> S
 fn first_refused(
     alloc: Global,
     texts: &[Vec<u8>],
-    driver: usize,
+    driver: u8,
 ) -> Result<Option<RefusedText>, AllocError>
     requires short { AreShort (map (λ text. text.items) texts.now) }
-    requires few { driver + length texts.now < 2 ^ 64 }
+    requires few { driver + length texts.now < 2 ^ 8 }
     ensures { IfOk result (λ found. MatchOption found
         (AreAccepted (map (λ text. text.items) texts.now))
         (λ refused. FirstRefused driver (map (λ text. text.items) texts.now) refused.driver refused.line refused.cause)) }
@@ -73,7 +72,7 @@ fn first_refused(
 }
 
 /// The refusal of a text, where it is refused.
-fn refusal_of(alloc: Global, text: &[u8], driver: usize) -> Result<Option<RefusedText>, AllocError>
+fn refusal_of(alloc: Global, text: &[u8], driver: u8) -> Result<Option<RefusedText>, AllocError>
     requires { length text.now ≤ most_bytes }
     ensures { IfOk result (λ found. MatchOption found
         (IsAccepted text.now)
@@ -93,8 +92,8 @@ fn refusal_of(alloc: Global, text: &[u8], driver: usize) -> Result<Option<Refuse
 }
 
 /// Writes a line for each text, where the first of these has the number `driver`.
-fn write_accepted<K: Sink>(sink: &mut K, texts: &[Vec<u8>], driver: usize) -> Result<(), WriteFault>
-    requires { driver + length texts.now < 2 ^ 64 }
+fn write_accepted<K: Sink>(sink: &mut K, texts: &[Vec<u8>], driver: u8) -> Result<(), WriteFault>
+    requires { driver + length texts.now < 2 ^ 8 }
     ensures ok { OnOk result (K.written sink.new ≡ more (K.written sink.old) (accepted_lines driver (map (λ text. text.items) texts.now))) }
     ensures err { OnErr result (IsCut (K.written sink.new) (more (K.written sink.old) (accepted_lines driver (map (λ text. text.items) texts.now)))) }
     ensures cause { HasCause (K.faults sink.old) (K.faults sink.new) result }
@@ -102,6 +101,33 @@ fn write_accepted<K: Sink>(sink: &mut K, texts: &[Vec<u8>], driver: usize) -> Re
     let [_first, rest @ ..] = texts else {
         return Ok(());
     };
-    print_item(sink, Printed::Accepted { driver })?;
+    print_item(sink, Item::Accepted { driver })?;
     write_accepted(sink, rest, driver + 1)
+}
+
+/// Writes the line of a driver text that is refused.
+pub fn print_refusal<K: Sink>(
+    sink: &mut K,
+    driver: u8,
+    line: u32,
+    cause: Cause,
+) -> Result<(), WriteFault>
+    ensures ok { OnOk result (K.written sink.new ≡ more (K.written sink.old) (line_of (item.Refused driver line (spelling_of cause)))) }
+    ensures err { OnErr result (IsCut (K.written sink.new) (more (K.written sink.old) (line_of (item.Refused driver line (spelling_of cause))))) }
+    ensures cause { HasCause (K.faults sink.old) (K.faults sink.new) result }
+{
+    let item = refusal(driver, line, cause);
+    let written = print_item(sink, item);
+    written
+}
+
+/// What is printed of a driver text that is refused.
+fn refusal(driver: u8, line: u32, cause: Cause) -> Item
+    ensures { result ≡ item.Refused driver line (spelling_of cause) }
+{
+    Item::Refused {
+        driver,
+        line,
+        cause: Name::new(cause.spelling()),
+    }
 }

@@ -2,15 +2,21 @@
 ghost use Rattle.std.specs.Prelude.{◌≡◌, IfOk, OnOk, OnErr};
 ghost use Rattle.sd_outside.specs.Counts.{HasCause};
 ghost use Rattle.sd_outside.specs.Sink.{IsCut, more};
-ghost use Rattle.sd_engine.specs.ThinRun.{event_lines, is_return as ends_function, last_item as item_at_end, lines_from, load_item as item_of_load, loaded as stage_of_load, run_lines, run_stage, stage_after, statement_item as item_of_statement};
+ghost use Rattle.sd_engine.specs.ThinRun.{event_lines, is_return as ends_function, last_item as item_at_end, lines_from, load_item as item_of_load, loaded as stage_of_load, run_lines, run_stage, stage_after, statement_item as item_of_statement, thin_task};
+ghost use Rattle.sd_engine.specs.declared.lines.Item.TheVariants as item;
+ghost use Rattle.sd_engine.specs.declared.lines.Order.TheVariants as order;
 
-use crate::lines::{Printed, print_item, print_optional};
+use crate::lines::{Item, Obstacle, Order, print_item, print_optional};
 use crate::thin_program::Statement;
 use crate::thin_scenario::Event;
+use sd_base::Who;
 use sd_outside::{Sink, WriteFault};
 
 /// The most steps of a run: one for each statement that is run.
-const MOST_STEPS: usize = 100_000;
+const MOST_STEPS: u32 = 100_000;
+
+/// The activity of a thin run: task 1 of the first driver.
+const THIN_TASK: Who = Who { owner: 1, task: 1 };
 
 /// How far a thin run has come.
 #[derive(Clone, Copy, PartialEq, Eq, Debug)]
@@ -22,7 +28,7 @@ pub enum Stage {
     /// The driver is loaded, and its `init` stands before its first statement on task 1.
     Ready,
     /// `init` has ended, after this many steps.
-    Over(usize),
+    Over(u32),
     /// A step was needed when the most steps had been taken. Nothing more takes place.
     Stopped,
 }
@@ -69,7 +75,7 @@ fn thin_event<K: Sink>(
         Event::Finish => match stage {
             Stage::Ready => run_init(sink, statements),
             Stage::NoInit | Stage::Absent | Stage::Over(_) => {
-                print_item(sink, Printed::Idle)?;
+                print_item(sink, Item::Idle { task: 1 })?;
                 Ok(stage)
             }
             Stage::Stopped => Ok(stage),
@@ -78,14 +84,35 @@ fn thin_event<K: Sink>(
 }
 
 /// What a load prints at a stage.
-fn load_item(stage: Stage) -> Option<Printed>
+fn load_item(stage: Stage) -> Option<Item>
     ensures { result ≡ item_of_load stage }
 {
     match stage {
-        Stage::NoInit => Some(Printed::NoInit),
-        Stage::Absent => Some(Printed::Loaded),
-        Stage::Ready | Stage::Over(_) => Some(Printed::LoadedAlready),
+        Stage::NoInit => declined(Obstacle::NoInit),
+        Stage::Absent => Some(Item::Loaded { driver: 1 }),
+        Stage::Ready | Stage::Over(_) => declined(Obstacle::Loaded),
         Stage::Stopped => None,
+    }
+}
+
+/// A load that is not carried out.
+fn declined(why: Obstacle) -> Option<Item>
+    ensures { result ≡ Some (item.Declined 1 order.Load why) }
+{
+    Some(Item::Declined {
+        driver: 1,
+        order: Order::Load,
+        why,
+    })
+}
+
+/// The end of `init` with this value.
+fn answered(value: i32) -> Item
+    ensures { result ≡ item.Answered thin_task value }
+{
+    Item::Answered {
+        who: THIN_TASK,
+        value: value as i64,
     }
 }
 
@@ -120,7 +147,7 @@ fn run_init<K: Sink>(sink: &mut K, statements: &[Statement]) -> Result<Stage, Wr
     if steps == MOST_STEPS {
         return Ok(Stage::Stopped);
     }
-    print_item(sink, Printed::Done { value: 0 })?;
+    print_item(sink, answered(0))?;
     Ok(Stage::Over(steps + 1))
 }
 
@@ -135,23 +162,26 @@ fn is_return(statement: Statement) -> bool
 }
 
 /// What a statement prints; an empty one nothing.
-fn statement_item(statement: Statement) -> Option<Printed>
+fn statement_item(statement: Statement) -> Option<Item>
     ensures { result ≡ item_of_statement statement }
 {
     match statement {
-        Statement::Print(value) => Some(Printed::Print { value }),
-        Statement::Return(value) => Some(Printed::Done { value }),
+        Statement::Print(value) => Some(Item::Print {
+            who: THIN_TASK,
+            value,
+        }),
+        Statement::Return(value) => Some(answered(value)),
         Statement::Empty => None,
     }
 }
 
 /// What is printed last.
-fn last_item(stage: Stage) -> Printed
+fn last_item(stage: Stage) -> Item
     ensures { result ≡ item_at_end stage }
 {
     match stage {
-        Stage::NoInit | Stage::Absent | Stage::Ready => Printed::End { steps: 0 },
-        Stage::Over(steps) => Printed::End { steps },
-        Stage::Stopped => Printed::Bound { steps: MOST_STEPS },
+        Stage::NoInit | Stage::Absent | Stage::Ready => Item::End { steps: 0 },
+        Stage::Over(steps) => Item::End { steps },
+        Stage::Stopped => Item::Bound { steps: MOST_STEPS },
     }
 }

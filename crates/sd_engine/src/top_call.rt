@@ -5,10 +5,10 @@ ghost use Rattle.sd_outside.specs.Counts.{Rose, RoseBeyond};
 ghost use Rattle.sd_engine.specs.Command.{all_differ, check_words, command_of, run_words};
 ghost use Rattle.sd_engine.specs.Serve.{IsAfterTexts, IsPossible, IsServed, IsTooLong, IsWritten, RunAnswers, Starts, Writes, WritesNothing, most_bytes, status_of};
 
-use crate::check::check_texts;
+use crate::check::{check_texts, print_refusal};
 use crate::command::{Command, read_words};
 use crate::drivers::thin_text;
-use crate::lines::{Printed, print_item};
+use crate::lines::{Item, print_item};
 use crate::status::Status;
 use crate::texts::read_texts;
 use crate::thin_program::{Statement, ThinText};
@@ -129,17 +129,10 @@ fn serve_texts<K: Sink>(alloc: Global, scenario: &[u8], driver: &[u8], sink: &mu
         return Status::OutOfMemory;
     };
     match text {
-        ThinText::Refused(line, cause) => {
-            let item = Printed::Refused {
-                driver: 1,
-                line,
-                cause,
-            };
-            match print_item(sink, item) {
-                Ok(()) => Status::Refused,
-                Err(_) => Status::WriteFault,
-            }
-        }
+        ThinText::Refused(line, cause) => match print_refusal(sink, 1, line, cause) {
+            Ok(()) => Status::Refused,
+            Err(_) => Status::WriteFault,
+        },
         ThinText::NoItem => run_program(alloc, scenario, driver, Stage::NoInit, &[], sink),
         ThinText::Init(statements) => run_program(
             alloc,
@@ -172,7 +165,7 @@ fn run_program<K: Sink>(
         return Status::OutOfMemory;
     };
     let Some(events) = read else {
-        return match print_item(sink, Printed::NoScenario) {
+        return match print_item(sink, Item::Unread { line: 0 }) {
             Ok(()) => Status::BadScenario,
             Err(_) => Status::WriteFault,
         };

@@ -18,3 +18,4 @@ pub mod Heads
 pub mod Functions
 pub mod SumValues
 pub mod NameValues
+pub mod SlotLaws

@@ -11,6 +11,7 @@ mod kernel_arguments;
 mod laws;
 mod naming;
 mod signature;
+mod slot_laws;
 
 pub use asked::{Asked, AskedCond};
 pub use derived::{
@@ -26,3 +27,4 @@ pub use laws::{
 };
 pub use naming::{Change, Names, Naming};
 pub use signature::{Returned, Signature};
+pub use slot_laws::slots_are_those_listed;

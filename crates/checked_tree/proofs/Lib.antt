@@ -2,6 +2,20 @@ pub mod Equations
 pub mod Outcomes
 pub mod FormValues
 pub mod CodeLaws
+pub mod NumberRanges
+pub mod Conversions
+pub mod Never
+pub mod Peeking
+pub mod Telling
+pub mod Acting
+pub mod FormNumbers
+pub mod LocalAtoms
+pub mod Meeting
+pub mod Moving
+pub mod Multiples
+pub mod RedundantChecks
+pub mod BranchFacts
+pub mod Waiting
 mod Sample
 mod ExpressionExamples
 mod ConditionExamples

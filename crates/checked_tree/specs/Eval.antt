@@ -1,5 +1,5 @@
 -- Evaluation with checks: parts first, left to right, each with its checks; then the form's own checks; then its value.
-use Rattle.std.specs.Prelude.{ℕ, ◌-◌, Bool, true, false, List, [], ◌∷◌, Option, Some, None, Ok, Err, slice_get, slice_index_or, if◌then◌else◌}
+use Rattle.std.specs.Prelude.{ℕ, ◌-◌, ◌==◌, Bool, true, false, List, [], ◌∷◌, Option, Some, None, Ok, Err, slice_get, slice_index_or, if◌then◌else◌}
 use Rattle.sd_base.specs.declared.kinds.FailKind.TheVariants as fail
 use Rattle.checked_tree.specs.declared.stops.Stop.TheVariants.{Failed, Wild}
 use Rattle.checked_tree.specs.declared.checks.Check.{Check}
@@ -9,17 +9,17 @@ use Rattle.checked_tree.specs.declared.expressions.CheckedExpr.TheFolds.{fold-Ch
 use Rattle.checked_tree.specs.Outcome.{Outcome, Got, ◌>>=◌}
 use Rattle.checked_tree.specs.Conditions.{State, eval_level, condition}
 
--- which checks are tested: an entry for each check, by number. Past the end every check is, so that `[]` tests all
+-- which checks are tested: an entry for each check, by number, from 1. Past the end every check is, so that `[]` tests all
 abbrev pub Keep : Type 0
 Keep = List Bool
 
 -- whether the check with this number is tested
 abbrev pub is_kept : Keep → ℕ → Bool
-is_kept keep id = slice_index_or keep (id - 1) true
+is_kept keep id = if id == 0 then true else slice_index_or keep (id - 1) true
 
--- the check with this number
+-- the check with this number. Numbers begin with 1: no check has the number 0
 abbrev pub check_of : CheckedFn → ℕ → Option Check
-check_of f id = slice_get f.checks (id - 1)
+check_of f id = if id == 0 then None else slice_get f.checks (id - 1)
 
 -- a check that does not hold fails, at its line, by its kind
 abbrev pub or_fails : Check → Bool → Outcome (Unit {0})

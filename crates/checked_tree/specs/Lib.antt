@@ -6,9 +6,16 @@ pub mod Eval
 pub mod Operands
 pub mod Act
 pub mod Step
+pub mod Told
+pub mod ActTold
+pub mod ToldLaws
 pub mod Bare
 pub mod Codes
 pub mod Ranges
 pub mod Edges
 pub mod Flow
 pub mod Redundant
+pub mod Effects
+pub mod Known
+pub mod KnownLaws
+pub mod KernelTable

@@ -73,6 +73,30 @@ is_of I32 z = is_between (neg_ℤ (pos (2 ^ 31))) (pos (2 ^ 31 - 1)) z
 is_of U32 z = is_word z
 is_of (Pointer size) z = is_word z
 
+-- whether the first type has every value of the second. A pointer has the values of `unsigned`
+unfoldable pub has_all : Scalar → Scalar → Bool
+has_all U8 U8 = true
+has_all I8 I8 = true
+has_all U16 U8 = true
+has_all U16 U16 = true
+has_all I16 U8 = true
+has_all I16 I8 = true
+has_all I16 I16 = true
+has_all I32 U8 = true
+has_all I32 I8 = true
+has_all I32 U16 = true
+has_all I32 I16 = true
+has_all I32 I32 = true
+has_all U32 U8 = true
+has_all U32 U16 = true
+has_all U32 U32 = true
+has_all U32 (Pointer size) = true
+has_all (Pointer size) U8 = true
+has_all (Pointer size) U16 = true
+has_all (Pointer size) U32 = true
+has_all (Pointer size) (Pointer other) = true
+has_all _ _ = false
+
 -- the bytes of a type
 abbrev pub scalar_size : Scalar → ℕ
 scalar_size Void = 0

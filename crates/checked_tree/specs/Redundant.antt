@@ -13,14 +13,12 @@ use Rattle.checked_tree.specs.declared.checks.Cond.TheVariants.{Le, Aligned, Non
 use Rattle.checked_tree.specs.declared.expressions.CheckedExpr.{CheckedExpr, out-CheckedExpr}
 use Rattle.checked_tree.specs.declared.expressions.CheckedExpr.TheOpen as E
 use Rattle.checked_tree.specs.declared.expressions.CheckedExpr.TheFolds.{fold-CheckedExpr}
-use Rattle.checked_tree.specs.declared.statements.CheckedStmt.{CheckedStmt}
 use Rattle.checked_tree.specs.declared.statements.CheckedStmt.TheOpen as S
 use Rattle.checked_tree.specs.declared.statements.CheckedStmt.TheFolds.{fold-CheckedStmt}
 use Rattle.checked_tree.specs.declared.units.CheckedFn.{CheckedFn}
-use Rattle.checked_tree.specs.Conditions.{State, condition, is_multiple}
+use Rattle.checked_tree.specs.Conditions.{is_multiple}
 use Rattle.checked_tree.specs.Eval.{check_of}
-use Rattle.checked_tree.specs.Flow.{Event, Tests, Assigns, Finds, Passes, Flow, Leaves, Ends, Meets, Splits, Node, own_flow, node_at, entry, Walks, is_at}
-use Rattle.std.specs.Prelude.{Ok}
+use Rattle.checked_tree.specs.Flow.{Event, Tests, Assigns, Finds, Passes, Flow, Leaves, Ends, Meets, Splits, Node, own_flow, entry, Walks, is_at}
 
 -- an expression that reads memory somewhere
 abbrev pub reads_level : E.CheckedExpr-F Bool → Bool
@@ -197,12 +195,13 @@ unfoldable pub flows_of : CheckedFn → List Flow
 flows_of f = flat_map (λ st. fold-CheckedStmt (List Flow) (flows_level f) st) f.body
 
 -- a check of the same kind and condition
+abbrev pub IsSameCheck : Check → Option Check → Type 0
+IsSameCheck c None = ⊥
+IsSameCheck c (Some d) = (d.kind ≡ c.kind) × (d.cond ≡ c.cond)
+
+-- an event that tests such a check
 abbrev pub Equals : CheckedFn → Check → Event → Type 0
-Equals f c (Tests id) = SameCheck (check_of f id)
-  where
-    SameCheck : Option Check → Type 0
-    SameCheck None = ⊥
-    SameCheck (Some d) = (d.kind ≡ c.kind) × (d.cond ≡ c.cond)
+Equals f c (Tests id) = IsSameCheck c (check_of f id)
 Equals f c _ = ⊥
 
 -- on every way from the start of its statement an equal check stands earlier
@@ -229,10 +228,3 @@ RedundantAt f id (Some c) = IsRedundant f id c
 
 abbrev pub Redundant : CheckedFn → ℕ → Type 0
 Redundant f id = RedundantAt f id (check_of f id)
-
--- what is known where a frame has these statements to do: each inequality over locals that every walk to there has met holds
-abbrev pub Known : CheckedFn → List CheckedStmt → State → Type 0
-Known f todo s =
-    (i : Ineq) → IsTrue (is_over_locals f i)
-    → ((events : List Event) → Walks f (entry f) events (node_at f todo) → Met f i events)
-    → condition f.atoms s (Le i) ≡ Ok true

@@ -1,5 +1,5 @@
 -- The step of an activity: one statement of its top frame, with all its checks. A failing step changes nothing.
-use Rattle.std.specs.Prelude.{ℕ, ◌-◌, nat_lt, Bool, true, false, List, [], ◌∷◌, ◌++◌, length, replicate, ℤ, pos, ◌+ℤ◌, Option, Some, None, Ok, Err, slice_get, slice_set, if◌then◌else◌}
+use Rattle.std.specs.Prelude.{ℕ, ◌-◌, nat_lt, Bool, true, false, List, [], ◌∷◌, ◌++◌, length, replicate, take, ℤ, pos, ◌+ℤ◌, Option, Some, None, Ok, Err, slice_get, slice_set, if◌then◌else◌}
 use Rattle.sd_base.specs.declared.actors.Fat.{Fat}
 use Rattle.sd_base.specs.declared.kinds.FailKind.TheVariants as fail
 use Rattle.checked_tree.specs.declared.stops.Stop.TheVariants.{Failed, Wild}
@@ -7,7 +7,9 @@ use Rattle.checked_tree.specs.declared.kernel.KernelCall.{KernelCall}
 use Rattle.checked_tree.specs.declared.kernel.Answer.{Answer}
 use Rattle.checked_tree.specs.declared.kernel.Answer.TheVariants as answer
 use Rattle.checked_tree.specs.declared.shapes.Scalar.{Scalar}
-use Rattle.checked_tree.specs.declared.shapes.Scalar.TheVariants.{Pointer}
+use Rattle.checked_tree.specs.declared.shapes.Scalar.TheVariants.{Void, Pointer}
+use Rattle.checked_tree.specs.declared.shapes.Shape.{Shape}
+use Rattle.checked_tree.specs.declared.shapes.Shape.TheVariants as shape
 use Rattle.checked_tree.specs.declared.statements.Target.{Target}
 use Rattle.checked_tree.specs.declared.statements.Target.TheVariants as target
 use Rattle.checked_tree.specs.declared.statements.CheckedStmt.{CheckedStmt, out-CheckedStmt}
@@ -177,10 +179,27 @@ abbrev pub line : Activity → ℕ
 line [] = 0
 line (top ∷ below) = line_at top.todo
 
--- the activity that a call from outside starts: each argument converted to its parameter's type by the caller
+-- the type to which the argument of a parameter of this shape is converted
+abbrev pub parameter_type : Shape → Scalar
+parameter_type (shape.Int scalar) = scalar
+parameter_type (shape.Pointer elem bounds) = Pointer 0
+parameter_type (shape.Struct number) = Void
+parameter_type shape.Address = Pointer 0
+
+-- arguments, each converted to the type of its parameter
+abbrev pub converted_arguments : List Shape → List ℤ → List ℤ
+converted_arguments [] values = []
+converted_arguments (s ∷ ss) [] = []
+converted_arguments (s ∷ ss) (v ∷ vs) = converted (parameter_type s) v ∷ converted_arguments ss vs
+
+-- the first frame of a call from outside
+abbrev pub started_frame : ℕ → List ℤ → CheckedFn → Frame
+started_frame number values f = entered number (converted_arguments (take f.params f.slots) values) f
+
+-- the activity that a call from outside starts
+abbrev pub started_by : ℕ → List ℤ → Option CheckedFn → Option Activity
+started_by number values None = None
+started_by number values (Some f) = Some (started_frame number values f ∷ [])
+
 unfoldable pub started : CheckedUnit → ℕ → List ℤ → Option Activity
-started unit number values = started_by (slice_get unit.functions number)
-  where
-    started_by : Option CheckedFn → Option Activity
-    started_by None = None
-    started_by (Some f) = Some (entered number values f ∷ [])
+started unit number values = started_by number values (slice_get unit.functions number)

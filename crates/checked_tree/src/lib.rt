@@ -8,8 +8,11 @@
 mod bare_forms;
 mod checks;
 mod codes;
+mod copies;
 mod expressions;
 mod kernel;
+mod kernel_table;
+mod laws;
 mod numbers;
 mod shapes;
 mod statements;
@@ -20,9 +23,18 @@ mod units;
 pub use bare_forms::bare;
 pub use checks::{Check, Cond};
 pub use codes::code;
+pub use copies::{copied, copied_part, copied_sum};
 pub use expressions::{Arithmetic, CheckedExpr, Comparison, Logic, PointerSum, Unary};
 pub use kernel::{Answer, KernelCall, KernelName};
-pub use numbers::{converted, low_bits};
+pub use kernel_table::{
+    Callers, KERNEL_CALLS, KernelResult, KernelRow, ParameterKind, is_by_name, kernel_named,
+    kernel_row,
+};
+pub use laws::{
+    redundant_checks_hold, what_is_known_moves_with_control, what_is_known_survives_a_call,
+    what_is_told_is_the_evaluation,
+};
+pub use numbers::{converted, has_all, low_bits};
 pub use shapes::{Bounds, Edge, Member, Scalar, Shape, StructShape, UnionShape};
 pub use statements::{Argument, CheckedStmt, PointerOperand, Target};
 pub use stops::Stop;

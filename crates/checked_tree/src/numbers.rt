@@ -1,5 +1,6 @@
 //! Numbers modulo a power of two, and their conversion to a type (C99 6.3.1.3, and two's complement).
-ghost use Rattle.std.specs.Prelude.{◌≡◌, ◌≤◌, ◌<◌, ◌^◌, IsTrue};
+ghost use Rattle.std.specs.Prelude.{◌≡◌, ◌≤◌, ◌<◌, ◌^◌, ℕ, IsTrue};
+ghost use Rattle.checked_tree.specs.declared.shapes.Scalar.TheVariants.{U32, Pointer};
 ghost use Rattle.checked_tree.specs.Numbers as spec;
 
 use crate::Scalar;
@@ -49,4 +50,36 @@ pub fn converted(scalar: Scalar, z: i128) -> i64
         Scalar::U32 => i64::from(low_bits(32, z)),
         Scalar::Pointer { size: _ } => i64::from(low_bits(32, z)),
     }
+}
+
+/// Whether the first type has every value of the second. A pointer has the values of `unsigned`; `void` has none and holds none.
+#[tactic(auto, unfolding(crate::specs::Numbers::has_all))]
+pub fn has_all(to: Scalar, from: Scalar) -> bool
+    ensures { result ≡ spec.has_all to from }
+{
+    match to {
+        Scalar::Void => false,
+        Scalar::U8 => matches!(from, Scalar::U8),
+        Scalar::I8 => matches!(from, Scalar::I8),
+        Scalar::U16 => matches!(from, Scalar::U8 | Scalar::U16),
+        Scalar::I16 => matches!(from, Scalar::U8 | Scalar::I8 | Scalar::I16),
+        Scalar::I32 => matches!(
+            from,
+            Scalar::U8 | Scalar::I8 | Scalar::U16 | Scalar::I16 | Scalar::I32
+        ),
+        Scalar::U32 => has_unsigned(from),
+        Scalar::Pointer { size: _ } => has_unsigned(from),
+    }
+}
+
+/// Whether 32 bits without a sign hold every value of a type.
+#[tactic(auto, unfolding(crate::specs::Numbers::has_all))]
+fn has_unsigned(from: Scalar) -> bool
+    ensures word { result ≡ spec.has_all U32 from }
+    ensures pointer { (size : ℕ) → result ≡ spec.has_all (Pointer size) from }
+{
+    matches!(
+        from,
+        Scalar::U8 | Scalar::U16 | Scalar::U32 | Scalar::Pointer { size: _ }
+    )
 }

@@ -7,5 +7,6 @@ pub mod Collapsing
 pub mod Dividing
 pub mod Norming
 pub mod Implying
+pub mod Deciding
 pub mod Weights
 mod Examples

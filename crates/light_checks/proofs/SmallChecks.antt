@@ -146,17 +146,17 @@ same_fn : (a b : CheckedFn) → ◌≡◌ {A = Result CheckedFn Fault} (Ok a) (O
 same_fn a b h = cc
 
 module _ (text : SeenText) where
+  abbrev at_home : Returned → Home
+  at_home r = record { functions = text.functions; result = r }
+
   statements_small : (f : Function) (r : Returned) (ctx : Context) (g : CheckedFn) → check_statements text f r ctx ≡ Ok g → IsSmallFn g
   unfolding check_statements
-  statements_small f r ctx g h = by (in_turn (map (check_statement ctx home) f.body) [] no_checks) refl h
+  statements_small f r ctx g h = by (in_turn (map (check_statement ctx (at_home r)) f.body) [] no_checks) refl h
     where
-      abbrev home : Home
-      home = record { functions = text.functions; result = r }
+      kept : Keeps (in_turn (map (check_statement ctx (at_home r)) f.body) [])
+      kept = turn_keeps (map (check_statement ctx (at_home r)) f.body) (each_keeps ctx (at_home r) f.body (every_one ctx (at_home r) f.body)) []
 
-      kept : Keeps (in_turn (map (check_statement ctx home) f.body) [])
-      kept = turn_keeps (map (check_statement ctx home) f.body) (each_keeps ctx home f.body (every_one ctx home f.body)) []
-
-      by : (o : Result (List CheckedStmt × Numbered) Fault) → in_turn (map (check_statement ctx home) f.body) [] no_checks ≡ o → finished ctx f r o ≡ Ok g → IsSmallFn g
+      by : (o : Result (List CheckedStmt × Numbered) Fault) → in_turn (map (check_statement ctx (at_home r)) f.body) [] no_checks ≡ o → finished ctx f r o ≡ Ok g → IsSmallFn g
       by (Ok b) e h = subst IsSmallFn (same_fn (checked_function ctx f r b.0 b.1) g h) (kept.run no_checks b.0 b.1 e (All-nil IsSmallCheck))
       by (Err d) e h = absurd cc
 

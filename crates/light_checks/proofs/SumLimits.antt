@@ -32,18 +32,19 @@ times_size k v h = omega (arith, unsigned_abs-mul k v, mul-le (unsigned_abs k) (
 module _ (atoms : List CheckedExpr) (s : State) (fit : AtomsFit atoms s) where
   terms_free : (ts : List (ℤ × ℕ)) (sum : ℤ) → unsigned_abs sum + weight ts * 2 ^ 32 < 2 ^ 126 → sum_from atoms s ts sum ≡ free_from atoms s ts sum
   terms_free [] sum h = refl
-  terms_free (t ∷ ts) sum h = by (atom_value s (slice_get atoms t.1)) refl
+  terms_free (t ∷ ts) sum h = by (atom_value s (slice_get atoms t.1)) refl (λ next room. terms_free ts next room)
     where
       by : (g : Got) → atom_value s (slice_get atoms t.1) ≡ g
+          → ((next : ℤ) → unsigned_abs next + weight ts * 2 ^ 32 < 2 ^ 126 → sum_from atoms s ts next ≡ free_from atoms s ts next)
           → (g >>= λ v. limited (sum +ℤ (t.0 *ℤ v)) >>= λ next. sum_from atoms s ts next) ≡ (g >>= λ v. free_from atoms s ts (sum +ℤ (t.0 *ℤ v)))
-      by (Err e) k = refl
-      by (Ok v) k =
+      by (Err e) k more = refl
+      by (Ok v) k more =
           let next : ℤ = sum +ℤ (t.0 *ℤ v) in
           let size = times_size t.0 v (value_small v (fit t.1 v k)) in
           let grown = abs-add sum (t.0 *ℤ v) in
           let here : unsigned_abs next < 2 ^ 126 = omega arith in
           let rest : unsigned_abs next + weight ts * 2 ^ 32 < 2 ^ 126 = omega arith in
-          ap (λ (g : Got). g >>= λ n. sum_from atoms s ts n) (below_limit next here) ∙ terms_free ts next rest
+          ap (λ (g : Got). g >>= λ n. sum_from atoms s ts n) (below_limit next here) ∙ more next rest
 
   pub form_free : (l : LinearForm) → IsSmallForm l → form_value atoms s l ≡ free_form_value atoms s l
   unfolding form_value
@@ -62,18 +63,20 @@ module _ (s : State) where
       let here : unsigned_abs next < 2 ^ 126 = omega arith in
       let rest : unsigned_abs next + constants ps + factors ps * 2 ^ 32 < 2 ^ 126 = omega arith in
       ap (λ (g : Got). g >>= λ n. parts_from s ps n) (below_limit next here) ∙ parts_free ps next fit.1 rest
-  parts_free (Atom k e ∷ ps) sum fit h = by (peek s e) refl
+  parts_free (Atom k e ∷ ps) sum fit h = by (peek s e) refl (λ next room. parts_free ps next fit.1 room)
     where
-      by : (g : Got) → peek s e ≡ g → ((g >>= λ v. Ok (k *ℤ v)) >>= λ v. limited (sum +ℤ v) >>= λ next. parts_from s ps next)
+      by : (g : Got) → peek s e ≡ g
+          → ((next : ℤ) → unsigned_abs next + constants ps + factors ps * 2 ^ 32 < 2 ^ 126 → parts_from s ps next ≡ free_parts_from s ps next)
+          → ((g >>= λ v. Ok (k *ℤ v)) >>= λ v. limited (sum +ℤ v) >>= λ next. parts_from s ps next)
           ≡ ((g >>= λ v. Ok (k *ℤ v)) >>= λ v. free_parts_from s ps (sum +ℤ v))
-      by (Err f) q = refl
-      by (Ok v) q =
+      by (Err f) q more = refl
+      by (Ok v) q more =
           let next : ℤ = sum +ℤ (k *ℤ v) in
           let size = times_size k v (value_small v (fit.0 v q)) in
           let grown = abs-add sum (k *ℤ v) in
           let here : unsigned_abs next < 2 ^ 126 = omega arith in
           let rest : unsigned_abs next + constants ps + factors ps * 2 ^ 32 < 2 ^ 126 = omega arith in
-          ap (λ (g : Got). g >>= λ n. parts_from s ps n) (below_limit next here) ∙ parts_free ps next fit.1 rest
+          ap (λ (g : Got). g >>= λ n. parts_from s ps n) (below_limit next here) ∙ more next rest
 
   pub sum_free : (l : Sum) → IsLight l → PartsFit s l.parts → sum_value s l ≡ free_sum_value s l
   unfolding sum_value

@@ -190,7 +190,13 @@ fn steps_give(alloc: Global, count: usize, output: &str) -> Result<bool, AllocEr
 
 #[test]
 fn a_run_ends_at_the_most_steps(rt: HostRuntime) -> Result<(), Fail> {
-    assert!(rt; steps_give(rt.alloc(), 99_999, "d1 loaded\nd1 t1 done 0\nt1 idle\nend 100000\n")?);
+    assert!(rt;
+        steps_give(
+            rt.alloc(),
+            99_999,
+            "d1 loaded\nd1 t1 done 0\nt1 idle\nend 100000\n"
+        )?
+    );
     assert!(rt; steps_give(rt.alloc(), 100_000, "d1 loaded\nbound 100000\n")?);
     Ok(())
 }

@@ -11,13 +11,23 @@ use sd_outside::{Sink, WriteFault, write_all};
 #[derive(Clone, Copy, PartialEq, Eq, Debug)]
 pub enum Item {
     /// `accepted K`: the driver's text is accepted.
-    Accepted { driver: u8 },
+    Accepted {
+        driver: u8,
+    },
     /// `refused K L W`: the driver's text is refused at this line, for the cause of this word.
-    Refused { driver: u8, line: u32, cause: Name },
+    Refused {
+        driver: u8,
+        line: u32,
+        cause: Name,
+    },
     /// `scenario L`: the line of the scenario has no reading.
-    Unread { line: u32 },
+    Unread {
+        line: u32,
+    },
     /// `dK loaded`.
-    Loaded { driver: u8 },
+    Loaded {
+        driver: u8,
+    },
     /// `dK load refused: W`.
     Declined {
         driver: u8,
@@ -25,15 +35,27 @@ pub enum Item {
         why: Obstacle,
     },
     /// `tT idle`: the task that is to run has no activity.
-    Idle { task: u8 },
+    Idle {
+        task: u8,
+    },
     /// `dK tT print V`.
-    Print { who: Who, value: i32 },
+    Print {
+        who: Who,
+        value: i32,
+    },
     /// `dK tT done V`: an activity ended with this value.
-    Answered { who: Who, value: i64 },
+    Answered {
+        who: Who,
+        value: i64,
+    },
     /// `end N`: the run has ended after so many steps.
-    End { steps: u32 },
+    End {
+        steps: u32,
+    },
     /// `bound N`: a step was needed when so many were taken.
-    Bound { steps: u32 },
+    Bound {
+        steps: u32,
+    },
 }
 
 /// What a scenario orders to be done with a driver.

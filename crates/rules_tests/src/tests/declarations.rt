@@ -446,6 +446,23 @@ int f(~struct nowhere *a);
   NoRule(2)
 struct s { int a; };~int f(~struct s a);
   NoRule(3)
+// a call of a function some parameter of which does not stand
+int g(void) {~f(1, 2);~return 0; }~int f(int a,~int a) { return 0; }
+  NoRule(2)
+int g(void) {~f(1, 2);~return 0; }~int f(int a,~int b) { return 0; }
+  accepted
+int f(int a,~int a) { return 0; }~int g(void) {~f(1, 2);~return 0; }
+  NoRule(2)
+int g(void) {~f(0, 1, 2);~return 0; }~int f(int *count(n) p, int n,~int n) { return 0; }
+  NoRule(2)
+int g(void) {~f(0, 1);~return 0; }~int f(int *count(n) p,~struct nowhere *n) { return 0; }
+  NoRule(2)
+int g(void) {~f(0, 0);~return 0; }~int f(int *count(n) p,~int *n) { return 0; }
+  NoRule(2)
+int g(void) {~int x;~x = 1;~f(x, 2);~return 0; }~int f(int a,~int a) { return 0; }
+  NoRule(4)
+int g(void) {~f(1);~return 0; }~int f(int a) {~int a; return 0; }
+  NoRule(5)
 // the first line of several
 int f(void)~{~int x;~x = y;~x = z; return 0; }
   NoRule(4)
@@ -475,6 +492,9 @@ int f(void) {~int~x;~x~=~y~;~return 0; }
 
 #[test]
 fn declarations_stand_or_are_refused_on_their_line(rt: HostRuntime) -> Result<(), Fail> {
-    assert_eq!(rt; wrong_texts(rt.alloc(), Show::Verdict, DECLARATIONS)?.as_str(), "");
+    assert_eq!(rt;
+        wrong_texts(rt.alloc(), Show::Verdict, DECLARATIONS)?.as_str(),
+        ""
+    );
     Ok(())
 }

@@ -60,6 +60,14 @@ struct s { char a[65533]; char t;~union {~struct nowhere *b when (t == 1); } u; 
   Limit(2, Size)
 struct s { char a[65533]; char t;~union {~int b when (t == 1); } t; };
   NoDecl(2)
+struct r { char a[65536]; }; struct s { int t;~union {~struct r b when (t == 1); } u; };
+  NoDecl(3)
+struct r { int a; }; struct s { char a[65534]; char t;~union {~struct r b when (t == 1); } u; };
+  NoDecl(3)
+struct r { int a; }; struct s { char a[65535]; char t;~union {~struct r b when (t == 1); } u; };
+  Limit(2, Size)
+struct r { int a; }; struct s { char a[65533]; char t;~union {~struct r b when (t == 1); char c when (t == 2); } u; char d; };
+  NoDecl(3)
 struct s {~char a[65536];~int *count(n) b; };
   NoDecl(3)
 struct s {~char a[65536];~char a; };
@@ -106,7 +114,10 @@ int f(void) { int x; x = 1`490` / #`; return x; }
 
 #[test]
 fn limits_are_met_and_passed(rt: HostRuntime) -> Result<(), Fail> {
-    assert_eq!(rt; wrong_texts(rt.alloc(), Show::Verdict, LIMITS)?.as_str(), "");
+    assert_eq!(rt;
+        wrong_texts(rt.alloc(), Show::Verdict, LIMITS)?.as_str(),
+        ""
+    );
     Ok(())
 }
 

@@ -3,7 +3,8 @@ use super::FORMS;
 use crate::tests::tables::wrong_rows;
 use std::test::Fail;
 
-const EXPRESSION_FORMS: &str = "// the types and the forms of integers (C99 6.3.1.1, 6.3.1.8, 6.5.7): promotion, the common type, the type of a shift, constants
+const EXPRESSION_FORMS: &str =
+    "// the types and the forms of integers (C99 6.3.1.1, 6.3.1.8, 6.5.7): promotion, the common type, the type of a shift, constants
 x = ch + sh;
   3 x = i32 i32(ch + sh);
 x = u + i;
@@ -206,6 +207,9 @@ x = p[0] && p[1];
 
 #[test]
 fn expressions_have_their_types(rt: HostRuntime) -> Result<(), Fail> {
-    assert_eq!(rt; wrong_rows(rt.alloc(), &FORMS, EXPRESSION_FORMS)?.as_str(), "");
+    assert_eq!(rt;
+        wrong_rows(rt.alloc(), &FORMS, EXPRESSION_FORMS)?.as_str(),
+        ""
+    );
     Ok(())
 }

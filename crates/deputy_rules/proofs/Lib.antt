@@ -1,4 +1,3 @@
-pub mod NumberRanges
 pub mod BareValues
 pub mod SumsHave
 pub mod EdgesHave

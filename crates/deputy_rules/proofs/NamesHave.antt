@@ -22,7 +22,7 @@ use Rattle.checked_tree.specs.Memory.{reached, read, load, value_from}
 use Rattle.checked_tree.specs.Numbers.{address, word_of, converted, scalar_size, is_value}
 use Rattle.checked_tree.specs.Outcome.{Outcome, Got, ◌>>=◌}
 use Rattle.checked_tree.proofs.Equations.{at-Local, at-Load, at-Field}
-use Rattle.deputy_rules.proofs.NumberRanges.{of_value, converted_of}
+use Rattle.checked_tree.proofs.NumberRanges.{of_value, converted_of}
 use Rattle.deputy_rules.specs.declared.naming.Naming.{Naming}
 use Rattle.deputy_rules.specs.Context.{Context}
 use Rattle.deputy_rules.specs.NameValues.{AreOnce, TermsHave, BaseHas, HaveNames, local_at, IsNumber, IsNamed, IsNamedBase, AreNamed, IsStructPlace}

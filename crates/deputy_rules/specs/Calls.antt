@@ -28,9 +28,11 @@ use Rattle.deputy_types.specs.declared.element.Element.TheVariants as element
 use Rattle.deputy_rules.specs.declared.handed.Handed.{Handed}
 use Rattle.deputy_rules.specs.declared.handed.Passed.{Passed}
 use Rattle.deputy_rules.specs.declared.handed.Passed.TheVariants as passed
-use Rattle.deputy_types.specs.declared.kernel_calls.ArgumentKind.{ArgumentKind}
+use Rattle.checked_tree.specs.declared.kernel_table.KernelResult.{KernelResult}
+use Rattle.checked_tree.specs.declared.kernel_table.KernelResult.TheVariants as answer
+use Rattle.checked_tree.specs.declared.kernel_table.ParameterKind.{ParameterKind}
 use Rattle.deputy_rules.specs.declared.kernel_arguments.KernelArguments.{KernelArguments}
-use Rattle.deputy_types.specs.declared.kernel_calls.ArgumentKind.TheVariants.{Number, Text, Handler}
+use Rattle.checked_tree.specs.declared.kernel_table.ParameterKind.TheVariants.{Number, Text, Handler, Element as NewElement, Block}
 use Rattle.deputy_rules.specs.declared.naming.Names.TheVariants as names
 use Rattle.deputy_rules.specs.declared.naming.Naming.{Naming}
 use Rattle.deputy_rules.specs.declared.signature.Returned.{Returned}
@@ -40,7 +42,7 @@ use Rattle.deputy_rules.specs.Coercion.{converted_side, handed, handed_over, nul
 use Rattle.deputy_rules.specs.Context.{Context, slot_shape}
 use Rattle.deputy_rules.specs.Expressions.{derive}
 use Rattle.deputy_rules.specs.Deriving.{Deriving, ◌>>=◌, pure, none, lift}
-use Rattle.deputy_types.specs.KernelCalls.{kernel_row, kernel_named}
+use Rattle.checked_tree.specs.KernelTable.{kernel_row, kernel_named}
 use Rattle.deputy_rules.specs.Operators.{promoted}
 use Rattle.deputy_types.specs.Options.{and_then}
 use Rattle.deputy_rules.specs.Pointers.{is_written}
@@ -220,30 +222,33 @@ text_key = element.Int U8
 abbrev pub operand : Handed → PointerOperand
 operand h = record { value = h.form; low = h.low; high = h.high }
 
--- one argument of a kernel call, behind those that are there
-unfoldable pub kernel_argument : Context → List Signature → ArgumentKind → Expr → KernelArguments → Deriving KernelArguments
+-- one argument of a kernel call, behind those that are there. What `kalloc` and `kfree` take is no argument of a call by name
+unfoldable pub kernel_argument : Context → List Signature → ParameterKind → Expr → KernelArguments → Deriving KernelArguments
 kernel_argument ctx functions Number e given = derive ctx e >>= λ x. lift (integer_of ctx x) >>= λ w.
     pure (record given { numbers = given.numbers ++ (record { scalar = I32; value = w.form }) ∷ [] })
 kernel_argument ctx functions Text e given = derive ctx e >>= λ x. lift (handed ctx text_key true x) >>= λ h.
     pure (record given { pointer = Some (operand h) })
 kernel_argument ctx functions Handler e given = lift (handler functions e) >>= λ k. pure (record given { handler = k })
+kernel_argument ctx functions NewElement e given = none
+kernel_argument ctx functions Block e given = none
 
 -- the arguments from left to right, one for each of the call's kinds
-abbrev pub kernel_arguments : Context → List Signature → List ArgumentKind → List Expr → KernelArguments → Deriving KernelArguments
+abbrev pub kernel_arguments : Context → List Signature → List ParameterKind → List Expr → KernelArguments → Deriving KernelArguments
 kernel_arguments ctx functions [] [] given = pure given
 kernel_arguments ctx functions [] (e ∷ es) given = none
 kernel_arguments ctx functions (k ∷ ks) [] given = none
 kernel_arguments ctx functions (k ∷ ks) (e ∷ es) given = kernel_argument ctx functions k e given >>= kernel_arguments ctx functions ks es
 
--- what a kernel call answers
-abbrev pub kernel_result : Bool → Option Returned
-kernel_result true = Some (returned.Value (shape.Int I32))
-kernel_result false = Some returned.Nothing
+-- what a kernel call gives back; a block is the result of `kalloc` alone
+abbrev pub kernel_result : KernelResult → Option Returned
+kernel_result answer.Nothing = Some returned.Nothing
+kernel_result answer.Number = Some (returned.Value (shape.Int I32))
+kernel_result answer.Block = None
 
 -- a kernel call
 unfoldable pub call_kernel : Context → List Signature → KernelName → Option (List ℕ) → List Expr → Deriving CheckedStmt
 call_kernel ctx functions name x es =
-    lift (call_target ctx (kernel_result (kernel_row name).answers) x) >>= λ t. kernel_arguments ctx functions (kernel_row name).arguments es no_arguments >>= λ a.
+    lift (call_target ctx (kernel_result (kernel_row name).result) x) >>= λ t. kernel_arguments ctx functions (kernel_row name).parameters es no_arguments >>= λ a.
     pure (statement.Kernel ctx.line t name a.numbers a.pointer a.handler 0 0)
 
 -- a call of a function with a body

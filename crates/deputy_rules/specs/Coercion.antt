@@ -8,11 +8,10 @@ use Rattle.checked_tree.specs.declared.expressions.Unary.TheVariants.{Cast}
 use Rattle.checked_tree.specs.declared.shapes.Bounds.{Bounds}
 use Rattle.checked_tree.specs.declared.shapes.Bounds.TheVariants as bounds
 use Rattle.checked_tree.specs.declared.shapes.Scalar.{Scalar}
-use Rattle.checked_tree.specs.declared.shapes.Scalar.TheVariants.{U8, I8, U16, I16, I32, U32}
 use Rattle.checked_tree.specs.declared.sums.Part.{Part}
 use Rattle.checked_tree.specs.declared.sums.Part.TheVariants.{Constant}
 use Rattle.checked_tree.specs.declared.sums.Sum.{Sum}
-use Rattle.checked_tree.specs.Numbers.{converted}
+use Rattle.checked_tree.specs.Numbers.{converted, has_all}
 use Rattle.deputy_rules.specs.declared.asked.AskedCond.TheVariants.{Guarded, Aligned}
 use Rattle.deputy_rules.specs.declared.derived.Derived.{Derived}
 use Rattle.deputy_rules.specs.declared.derived.Pointed.{Pointed}
@@ -30,25 +29,6 @@ use Rattle.deputy_rules.specs.Pointers.{is_written}
 use Rattle.deputy_rules.specs.Sums.{constant, constant_of, constant_part, atom_part, with_part}
 use Rattle.deputy_types.specs.Types.{same_element}
 use Rattle.deputy_rules.specs.Values.{value_of, size_of, low_sum, high_sum}
-
--- the first type has every value of the second
-unfoldable pub has_all : Scalar → Scalar → Bool
-has_all U8 U8 = true
-has_all I8 I8 = true
-has_all U16 U8 = true
-has_all U16 U16 = true
-has_all I16 U8 = true
-has_all I16 I8 = true
-has_all I16 I16 = true
-has_all I32 U8 = true
-has_all I32 I8 = true
-has_all I32 U16 = true
-has_all I32 I16 = true
-has_all I32 I32 = true
-has_all U32 U8 = true
-has_all U32 U16 = true
-has_all U32 U32 = true
-has_all _ _ = false
 
 -- the cast of an expression in a check
 abbrev pub cast_part : Scalar → CheckedExpr → Part

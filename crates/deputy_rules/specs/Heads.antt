@@ -23,7 +23,7 @@ use Rattle.deputy_rules.specs.declared.signature.Signature.{Signature}
 use Rattle.deputy_rules.specs.Agreement.{agree, parameter_place, same_place}
 use Rattle.deputy_rules.specs.Calls.{function_number}
 use Rattle.deputy_types.specs.Declarations.{declared_shape, declared_role}
-use Rattle.deputy_types.specs.KernelCalls.{kernel_named}
+use Rattle.checked_tree.specs.KernelTable.{kernel_named}
 use Rattle.deputy_types.specs.Options.{and_then}
 use Rattle.deputy_types.specs.declared.siblings.Siblings.{Siblings}
 use Rattle.deputy_types.specs.Siblings.{no_siblings, sibling_number, with_sibling}

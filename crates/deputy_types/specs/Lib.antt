@@ -5,7 +5,6 @@ pub mod Siblings
 pub mod Extents
 pub mod Table
 pub mod Declarations
-pub mod KernelCalls
 pub mod MemberTypes
 pub mod Found
 pub mod StructLayout

@@ -29,7 +29,7 @@ use Rattle.deputy_types.specs.Declarations.{up_to}
 use Rattle.deputy_types.specs.Extents.{key_extent, round_up_to, AreExtents}
 use Rattle.deputy_types.specs.declared.found.Found.{Found}
 use Rattle.deputy_types.specs.Found.{first_found, found_items, struct_names, with_name}
-use Rattle.deputy_types.specs.KernelCalls.{kernel_named}
+use Rattle.checked_tree.specs.KernelTable.{kernel_named}
 use Rattle.deputy_types.specs.Options.{and_then}
 use Rattle.deputy_types.specs.StructLayout.{and_ok, or_no_decl, element_count, const_value, struct_laid}
 use Rattle.deputy_types.specs.Table.{Table, elem_size}

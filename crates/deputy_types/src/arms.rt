@@ -18,17 +18,23 @@ use checked_tree::{Member, Scalar, Shape, UnionShape};
 use sd_base::{Memory, Name};
 use std::alloc::Global;
 
-/// The extent of a union: that of the greatest of its arms, and at least one byte.
-#[tactic(auto, using(crate::proofs::TypeExtents::union_is_extent))]
-pub(crate) fn union_extent(types: &Types, arms: &[Arm]) -> Extent
-    ensures value { result ≡ spec.union_extent types.now arms.now }
-    ensures fits { IsExtent result }
+/// The extent of the greatest of these arms, and at least one byte.
+fn greatest_of(types: &Types, arms: &[Arm]) -> Extent
+    ensures { result ≡ spec.union_extent types.now arms.now }
 {
     let mut greatest = natural(1);
     for arm in arms {
         greatest = greater(greatest, arm_extent(types, &arm.type_name));
     }
     greatest
+}
+
+/// The extent of a union: that of the greatest of its arms, and at least one byte.
+pub(crate) fn union_extent(types: &Types, arms: &[Arm]) -> Extent
+    ensures value { result ≡ spec.union_extent types.now arms.now }
+    ensures fits { IsExtent result }
+{
+    greatest_of(types, arms)
 }
 
 /// A written constant.

@@ -16,8 +16,6 @@ mod found;
 mod found_forms;
 mod found_types;
 mod global;
-mod kernel_calls;
-mod kernel_names;
 mod keys;
 mod laying;
 mod load_image;
@@ -48,8 +46,6 @@ pub use extents::{key_extent, round_up_to, stars_extent, type_extent};
 pub use fields::element_count;
 pub use found::Found;
 pub use global::GlobalShape;
-pub use kernel_calls::ArgumentKind;
-pub use kernel_names::kernel_named;
 pub use laying::{Arms, Laid, Laying};
 pub use load_image::Image;
 pub use keys::{

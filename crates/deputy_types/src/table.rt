@@ -11,7 +11,7 @@ use crate::{
     declared_role, type_key, typed_shape,
 };
 use c_tree::TypeName;
-use checked_tree::{ImageBlock, Member, Shape, StructShape, UnionShape};
+use checked_tree::{CheckedFn, CheckedUnit, ImageBlock, Member, Shape, StructShape, UnionShape};
 use sd_base::{Memory, Name};
 use sqlite_items::Items;
 use std::alloc::Global;
@@ -67,6 +67,27 @@ impl Model for TypeTable {
 }
 
 impl TypeTable {
+    /// The checked unit of these functions: the load image, the structs and the elements are moved into it.
+    pub fn into_unit(self, functions: Items<CheckedFn>) -> CheckedUnit
+        ensures functions { result.functions ≡ functions }
+        ensures image { result.image ≡ self.image }
+        ensures structs { result.structs ≡ self.structs }
+        ensures elems { result.elems ≡ self.elems }
+    {
+        let TypeTable {
+            elems,
+            structs,
+            image,
+            ..
+        } = self;
+        CheckedUnit {
+            functions,
+            image,
+            structs,
+            elems,
+        }
+    }
+
     /// The names of the structs, and the types of elements.
     pub fn types(&self) -> &Types
         ensures { result.now ≡ self.now.types }

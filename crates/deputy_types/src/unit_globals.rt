@@ -6,9 +6,10 @@ ghost use Rattle.deputy_types.specs.UnitLayout as spec;
 
 use crate::unit_items::Declared;
 use crate::{
-    Element, GlobalShape, Types, const_value, element_count, kernel_named, key_extent, type_key,
+    Element, GlobalShape, Types, const_value, element_count, key_extent, type_key,
 };
 use c_tree::{Const, GlobalItem, Number};
+use checked_tree::kernel_named;
 use sd_base::Name;
 
 /// Whether no global, no function, no prototype and no kernel call has this name.

@@ -24,7 +24,7 @@ use Rattle.c_tree.specs.declared.types.Star.{Star}
 use Rattle.c_tree.specs.declared.types.TypeName.{TypeName}
 use Rattle.checked_tree.specs.declared.kernel.KernelName.{KernelName}
 use Rattle.checked_tree.specs.declared.kernel.KernelName.TheVariants as kernel
-use Rattle.deputy_types.specs.KernelCalls.{kernel_named}
+use Rattle.checked_tree.specs.KernelTable.{kernel_named}
 
 -- `nullterm`
 abbrev pub is_later_annotation : Option Annotation → Bool

@@ -42,7 +42,7 @@ fn accept_unit(alloc: Global, unit: &Unit) -> Result<CheckedUnit, DriverRefusal>
         Ok(types) => types,
         Err(refusal) => return Err(type_refusal(refusal)),
     };
-    match check_unit(alloc, unit, &types) {
+    match check_unit(alloc, unit, types) {
         Ok(checked) => Ok(checked),
         Err(refusal) => Err(rule_refusal(refusal)),
     }

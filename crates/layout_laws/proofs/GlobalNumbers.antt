@@ -12,7 +12,7 @@ use Rattle.deputy_types.specs.declared.global.GlobalShape.{GlobalShape}
 use Rattle.deputy_types.specs.declared.table.GlobalPlace.{GlobalPlace}
 use Rattle.deputy_types.specs.declared.types.Types.{Types}
 use Rattle.deputy_types.specs.Found.{with_name}
-use Rattle.deputy_types.specs.KernelCalls.{kernel_named}
+use Rattle.checked_tree.specs.KernelTable.{kernel_named}
 use Rattle.deputy_types.specs.Options.{and_then}
 use Rattle.deputy_types.specs.Table.{Table, global}
 use Rattle.deputy_types.specs.Types.{type_key}

@@ -38,7 +38,7 @@ numbers_fault : {A : Type 0} (line : ℕ) (a : A) (n : Option Numbered) (e : Fau
 numbers_fault line a None e h = cc
 numbers_fault line a (Some n) e h = absurd cc
 
-line_fault : {A : Type 0} (line : ℕ) (b : Numbered) (o : Option (A × List Asked)) (e : Fault) → numbered_at line b o ≡ Err e → e ≡ NoRule line
+pub line_fault : {A : Type 0} (line : ℕ) (b : Numbered) (o : Option (A × List Asked)) (e : Fault) → numbered_at line b o ≡ Err e → e ≡ NoRule line
 line_fault line b None e h = cc
 line_fault line b (Some r) e h = numbers_fault line r.0 (numbered r.1 b) e h
 

@@ -13,15 +13,15 @@ use Rattle.deputy_rules.specs.declared.derived.Derived.{Derived}
 use Rattle.deputy_rules.specs.declared.handed.Handed.{Handed}
 use Rattle.deputy_rules.specs.declared.handed.Passed.{Passed}
 use Rattle.deputy_rules.specs.declared.handed.Passed.TheVariants as passed
-use Rattle.deputy_types.specs.declared.kernel_calls.ArgumentKind.{ArgumentKind}
-use Rattle.deputy_types.specs.declared.kernel_calls.ArgumentKind.TheVariants.{Number, Text, Handler}
+use Rattle.checked_tree.specs.declared.kernel_table.ParameterKind.{ParameterKind}
+use Rattle.checked_tree.specs.declared.kernel_table.ParameterKind.TheVariants.{Number, Text, Handler, Element, Block}
 use Rattle.deputy_rules.specs.declared.kernel_arguments.KernelArguments.{KernelArguments}
 use Rattle.deputy_rules.specs.declared.naming.Naming.{Naming}
 use Rattle.deputy_rules.specs.declared.signature.Signature.{Signature}
 use Rattle.deputy_rules.specs.Calls.{function_number, call_target, pass, pass_one, pass_each, passed_sum, coerce_shape, coerce_value, coerce_passed, coerce_each, of_arguments, call_function, kernel_result, handler, text_key, kernel_argument, kernel_arguments, no_arguments, call_kernel, call_numbered, call_named, call_by, call, kalloc_target, counted, elem_bytes, kalloc, freed_value, kfree}
 use Rattle.deputy_rules.specs.Coercion.{converted_side, handed}
 use Rattle.deputy_rules.specs.Context.{Context}
-use Rattle.deputy_types.specs.KernelCalls.{kernel_row, kernel_named}
+use Rattle.checked_tree.specs.KernelTable.{kernel_row, kernel_named}
 use Rattle.deputy_types.specs.Options.{and_then}
 use Rattle.deputy_rules.specs.Sums.{sum_of}
 use Rattle.deputy_types.specs.Table.{elem, element_at}
@@ -155,7 +155,7 @@ module _ (ctx : Context) (is : IsContext ctx) where
       (λ args are. then_ensures _ _ Any Any (each_coerced f.params (of_arguments args) f.params args [] (argument_names ctx f.params args are) shapes are) (λ ids any. pure_ensures _ Any tt)))
 
   -- ---- calls of the kernel
-  kernel_argument_is : (functions : List Signature) (k : ArgumentKind) (e : Expr) (before : KernelArguments) → IsReadable (spelled e) → Ensures (kernel_argument ctx functions k e before) Any
+  kernel_argument_is : (functions : List Signature) (k : ParameterKind) (e : Expr) (before : KernelArguments) → IsReadable (spelled e) → Ensures (kernel_argument ctx functions k e before) Any
   unfolding kernel_argument
   kernel_argument_is functions Number e before r =
       then_ensures _ _ (IsDerived 1000) Any (derive_short ctx is e r)
@@ -164,8 +164,10 @@ module _ (ctx : Context) (is : IsContext ctx) where
       then_ensures _ _ (IsDerived 1000) Any (derive_short ctx is e r)
       (λ x k. then_ensures _ _ Any Any (lift_ensures (handed ctx text_key true x) Any (λ h found. tt)) (λ h any. pure_ensures _ Any tt))
   kernel_argument_is functions Handler e before r = then_ensures _ _ Any Any (lift_ensures (handler functions e) Any (λ k found. tt)) (λ k any. pure_ensures _ Any tt)
+  kernel_argument_is functions Element e before r = none_ensures Any
+  kernel_argument_is functions Block e before r = none_ensures Any
 
-  kernel_arguments_are : (functions : List Signature) (ks : List ArgumentKind) (es : List Expr) (before : KernelArguments) → AreReadable es
+  kernel_arguments_are : (functions : List Signature) (ks : List ParameterKind) (es : List Expr) (before : KernelArguments) → AreReadable es
       → Ensures (kernel_arguments ctx functions ks es before) Any
   kernel_arguments_are functions [] [] before r = pure_ensures _ Any tt
   kernel_arguments_are functions [] (e ∷ es) before r = none_ensures Any
@@ -177,8 +179,8 @@ module _ (ctx : Context) (is : IsContext ctx) where
   kernel_is : (functions : List Signature) (name : KernelName) (x : Option (List ℕ)) (es : List Expr) → AreReadable es → Ensures (call_kernel ctx functions name x es) Any
   unfolding call_kernel
   kernel_is functions name x es r =
-      then_ensures _ _ Any Any (lift_ensures (call_target ctx (kernel_result (kernel_row name).answers) x) Any (λ t found. tt))
-      (λ t any. then_ensures _ _ Any Any (kernel_arguments_are functions (kernel_row name).arguments es no_arguments r) (λ a any. pure_ensures _ Any tt))
+      then_ensures _ _ Any Any (lift_ensures (call_target ctx (kernel_result (kernel_row name).result) x) Any (λ t found. tt))
+      (λ t any. then_ensures _ _ Any Any (kernel_arguments_are functions (kernel_row name).parameters es no_arguments r) (λ a any. pure_ensures _ Any tt))
 
   -- ---- calls
   named_call : (functions : List Signature) (name : List ℕ) (x : Option (List ℕ)) (es : List Expr) → All (λ (f : Signature). AreShapes f.params) functions → AreReadable es

@@ -28,7 +28,8 @@ use Rattle.deputy_rules.specs.declared.naming.Names.{Names}
 use Rattle.deputy_rules.specs.declared.naming.Names.TheVariants as names
 use Rattle.deputy_rules.specs.declared.naming.Naming.{Naming}
 use Rattle.deputy_rules.specs.Changes.{present, changed, pointer_change, sibling_change, optional_change, sibling_changes, slot_changes, shape_of, struct_names, member_changes, unions_of, tagged, union_address, loaded, ask_kept, optional_kept, tag_change}
-use Rattle.deputy_rules.specs.Coercion.{has_all, cast_part, side_by, converted_side, null, handed_over, handed_value, handed, ask_aligned, coerce, coerce_within, coerce_to, coerce_counted}
+use Rattle.checked_tree.specs.Numbers.{has_all}
+use Rattle.deputy_rules.specs.Coercion.{cast_part, side_by, converted_side, null, handed_over, handed_value, handed, ask_aligned, coerce, coerce_within, coerce_to, coerce_counted}
 use Rattle.deputy_rules.specs.Context.{Context, slot_shape}
 use Rattle.deputy_rules.specs.Operators.{same_truth}
 use Rattle.deputy_rules.specs.Pointers.{is_written}

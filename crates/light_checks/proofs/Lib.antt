@@ -25,4 +25,5 @@ pub mod Refusals
 pub mod Bodies
 pub mod SmallChecks
 pub mod Units
+pub mod ExpressionAlone
 mod Examples

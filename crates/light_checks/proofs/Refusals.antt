@@ -20,7 +20,7 @@ use Rattle.light_checks.proofs.Derivations.{condition_numbers, statement_numbers
 use Rattle.light_checks.proofs.ShortUnits.{context_within, home_within}
 
 -- what is derived and has numbers is no fault
-none_refused : {A : Type 0} (line : ℕ) (b : Numbered) (o : Option (A × List Asked)) (e : Fault) → ((a : A) (asked : List Asked) → o ≡ Some (a, asked) → numbered asked b ≢ None)
+pub none_refused : {A : Type 0} (line : ℕ) (b : Numbered) (o : Option (A × List Asked)) (e : Fault) → ((a : A) (asked : List Asked) → o ≡ Some (a, asked) → numbered asked b ≢ None)
     → numbered_at line b o ≡ Err e → o ≡ None
 none_refused line b None e has h = refl
 none_refused line b (Some r) e has h = absurd (by (numbered r.1 b) refl h)
@@ -30,7 +30,7 @@ none_refused line b (Some r) e has h = absurd (by (numbered r.1 b) refl h)
     by (Some m) k h = absurd cc
 
 -- the context at a line is that of the function
-at_line_within : (ctx : Context) (line : ℕ) (b : Numbered) → IsContext ctx → IsContext (statement_context ctx line b)
+pub at_line_within : (ctx : Context) (line : ℕ) (b : Numbered) → IsContext ctx → IsContext (statement_context ctx line b)
 at_line_within ctx line b is = record { table = is.table; slots = is.slots }
 
 module _ (u : TextUnit) (t : Table) (f : Function) (r : Returned) (is : IsFunctionOf u t f r) where

@@ -1,3 +1,4 @@
+pub mod Alone
 pub mod Lightness
 pub mod Faults
 pub mod ShortActions

@@ -9,11 +9,6 @@ ghost use Rattle.c_tree.specs.Short.{IsShortExpr};
 ghost use Rattle.c_tree.specs.ShortUnit.{IsShortUnit};
 ghost use Rattle.checked_tree.specs.declared.expressions.CheckedExpr.{CheckedExpr};
 ghost use Rattle.checked_tree.specs.declared.statements.CheckedStmt.{CheckedStmt};
-ghost use Rattle.checked_tree.specs.declared.sums.Sum.{Sum};
-ghost use Rattle.checked_tree.specs.declared.units.CheckedUnit.{CheckedUnit};
-ghost use Rattle.checked_tree.specs.Conditions.{State, form_value};
-ghost use Rattle.checked_tree.specs.Operands.{sum_value};
-ghost use Rattle.dep_expr.specs.Linear.{LinearForm};
 ghost use Rattle.deputy_rules.specs.declared.asked.Asked.{Asked};
 ghost use Rattle.deputy_rules.specs.declared.derived.Derived.{Derived};
 ghost use Rattle.deputy_rules.specs.declared.signature.Returned.{Returned};
@@ -25,11 +20,10 @@ ghost use Rattle.deputy_rules.specs.Functions.{check_statements, checked, contex
 ghost use Rattle.deputy_rules.specs.Statements.{Home, act, condition, controlling, simple, statement_context};
 ghost use Rattle.deputy_types.specs.Table.{Table};
 ghost use Rattle.deputy_types.specs.UnitLayout.{layout};
-ghost use Rattle.light_checks.specs.Lightness.{IsLight, IsLightCheck};
+ghost use Rattle.light_checks.specs.Lightness.{IsLightCheck};
 ghost use Rattle.light_checks.specs.Faults.{IsRuleFault};
 ghost use Rattle.light_checks.specs.ShortActions.{HasShortParts};
 ghost use Rattle.light_checks.specs.ShortUnits.{IsFunctionOf, home_of};
-ghost use Rattle.light_checks.specs.SumLimits.{AtomsFit, IsSmallCheck, IsSmallForm, PartsFit, free_form_value, free_sum_value};
 ghost use Rattle.light_checks.specs.Unruled.{Tells, UnruledIn};
 ghost use Rattle.light_checks.specs.Within.{IsContext, IsHome, IsTable};
 
@@ -77,19 +71,4 @@ pub fn a_refused_body_has_a_line_without_rule()
 /// of a simple statement or a condition that no rule derives: never for the weight of a check.
 pub fn a_refused_unit_has_its_reason()
     ensures { (u : TextUnit) (t : Table) (e : Fault) → IsShortUnit u → layout u ≡ Ok t → checked t u ≡ Err e → IsRuleFault u t e }
-{}
-
-/// Each check of a unit that the rules derive is small: its forms' coefficients come to less than 2^62 together, and their constants are below 2^100.
-pub fn derived_checks_are_small()
-    ensures { (u : TextUnit) (t : Table) (c : CheckedUnit) → checked t u ≡ Ok c → All (λ f. All IsSmallCheck f.checks) c.functions }
-{}
-
-/// So in a state whose atoms have values of 32 bits no sum of such a check reaches the machine's limit: a form has the value that it has where nothing is limited.
-pub fn a_small_form_reaches_no_limit()
-    ensures { (atoms : List CheckedExpr) (s : State) (l : LinearForm) → AtomsFit atoms s → IsSmallForm l → form_value atoms s l ≡ free_form_value atoms s l }
-{}
-
-/// Nor does a light sum, as those are that bound a pointer.
-pub fn a_light_sum_reaches_no_limit()
-    ensures { (s : State) (l : Sum) → PartsFit s l.parts → IsLight l → sum_value s l ≡ free_sum_value s l }
 {}

@@ -19,7 +19,7 @@ mod values;
 pub use asking::ask;
 pub use binary::{same_element, same_truth};
 pub use context::Context;
-pub use copies::{copy_form, copy_part, copy_sum};
+pub use copies::boxed_copy;
 pub use expressions::{derive, expression};
 pub use forms::{field_form, load_form, null_form, unary_form};
 pub use ids::{Ids, joined, one};

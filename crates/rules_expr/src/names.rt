@@ -4,10 +4,9 @@ ghost use Rattle.deputy_rules.specs.Sums as sums;
 ghost use Rattle.deputy_rules.specs.Values as spec;
 
 use crate::Context;
-use crate::copies::copy_sum;
 use crate::forms::{field_form, load_form, local_form};
 use crate::sums::{beyond, plus, scaled, sum_of};
-use checked_tree::{Bounds, CheckedExpr, Edge, Member, Part, Scalar, Shape, Sum, bare};
+use checked_tree::{Bounds, CheckedExpr, Edge, Member, Part, Scalar, Shape, Sum, bare, copied_sum};
 use deputy_rules::{Change, Names, Naming};
 use sqlite_items::{Boxed, Items};
 use std::alloc::{AllocError, Global};
@@ -78,7 +77,7 @@ fn argument_sum(alloc: Global, argument: Option<&Sum>) -> Result<Sum, AllocError
     ensures { IfOk result (λ s. s ≡ unwrap_or (option_copied argument.entry) spec.nothing) }
 {
     match argument {
-        Some(sum) => copy_sum(alloc, sum),
+        Some(sum) => copied_sum(alloc, sum),
         None => Ok(nothing(alloc)),
     }
 }
@@ -112,7 +111,7 @@ fn changed_sum(
     match change {
         Some(new) => {
             if new.name == name {
-                copy_sum(alloc, &new.value)
+                copied_sum(alloc, &new.value)
             } else {
                 named_sum(alloc, ctx, names, name)
             }

@@ -11,11 +11,10 @@ ghost use Rattle.deputy_rules.specs.Places as spec;
 
 use crate::Context;
 use crate::asking::ask;
-use crate::copies::copy_sum;
 use crate::forms::{block_form, element_form, through_form};
 use crate::ids::{Ids, joined, one, with_id};
 use crate::sums::{beyond, constant, side, times, with_part};
-use checked_tree::{ImageBlock, Scalar, Sum};
+use checked_tree::{ImageBlock, Scalar, Sum, copied_sum};
 use deputy_rules::{ArrayPlace, Asked, AskedCond, Derived, Place, Pointed, DerivingRefusal, Source, Whole};
 use deputy_types::{Element, GlobalPlace};
 use sd_base::{CheckKind, Name};
@@ -100,7 +99,7 @@ pub fn not_null(
         return Ok(Items::new(alloc));
     }
     let left = constant(alloc, 1)?;
-    let right = copy_sum(alloc, &pointer.at)?;
+    let right = copied_sum(alloc, &pointer.at)?;
     let id = ask(ctx, CheckKind::Null, AskedCond::Le { left, right }, asked)?;
     Ok(one(alloc, id)?)
 }
@@ -115,7 +114,7 @@ fn ask_below_high(
 ) -> Result<usize, DerivingRefusal>
     ensures { Derives (asking.ask ctx.now kind.Bound (cond.Le left pointer.now.high) asked.old) result asked.new }
 {
-    let right = copy_sum(alloc, &pointer.high)?;
+    let right = copied_sum(alloc, &pointer.high)?;
     ask(ctx, CheckKind::Bound, AskedCond::Le { left, right }, asked)
 }
 
@@ -148,7 +147,7 @@ pub fn through(
 {
     let ids = not_null(alloc, ctx, &pointer, asked)?;
     let end = beyond(
-        copy_sum(alloc, &pointer.at)?,
+        copied_sum(alloc, &pointer.at)?,
         i64::from(ctx.size_of(pointer.elem)),
     )?;
     let id = ask_below_high(alloc, ctx, end, &pointer, asked)?;
@@ -213,8 +212,8 @@ pub fn not_below(
     if !wanted {
         return Ok(Items::new(alloc));
     }
-    let left = copy_sum(alloc, low)?;
-    let right = copy_sum(alloc, at)?;
+    let left = copied_sum(alloc, low)?;
+    let right = copied_sum(alloc, at)?;
     let id = ask(ctx, CheckKind::Bound, AskedCond::Le { left, right }, asked)?;
     Ok(one(alloc, id)?)
 }
@@ -234,8 +233,8 @@ pub fn not_above(
     if !wanted {
         return Ok(Items::new(alloc));
     }
-    let left = copy_sum(alloc, at)?;
-    let right = copy_sum(alloc, high)?;
+    let left = copied_sum(alloc, at)?;
+    let right = copied_sum(alloc, high)?;
     let id = ask(ctx, CheckKind::Bound, AskedCond::Le { left, right }, asked)?;
     Ok(one(alloc, id)?)
 }
@@ -244,7 +243,7 @@ pub fn not_above(
 pub fn moved_sum(alloc: Global, at: &Sum, index: &Whole, size: i64) -> Result<Sum, AllocError>
     ensures { IfOk result (λ s. s ≡ spec.moved_sum at.now index.now size) }
 {
-    let start = copy_sum(alloc, at)?;
+    let start = copied_sum(alloc, at)?;
     with_part(start, times(size, side(alloc, index)?))
 }
 
@@ -265,7 +264,7 @@ fn index_checks(
     let signed = !is_unsigned(index.scalar);
     let more = not_below(alloc, ctx, signed, &pointer.low, at, asked)?;
     let ids = joined(ids, more)?;
-    let end = beyond(copy_sum(alloc, at)?, i64::from(size))?;
+    let end = beyond(copied_sum(alloc, at)?, i64::from(size))?;
     let id = ask_below_high(alloc, ctx, end, pointer, asked)?;
     Ok(with_id(ids, id)?)
 }

@@ -10,14 +10,13 @@ ghost use Rattle.deputy_rules.specs.Pointers as spec;
 
 use crate::Context;
 use crate::asking::ask;
-use crate::copies::copy_sum;
 use crate::forms::{address_form, block_form, moved_form};
 use crate::ids::{Ids, joined, one};
 use crate::places::{
     indexed, is_unsigned, moved_sum, not_above, not_below, not_null, through_text,
 };
 use crate::sums::{beyond, constant};
-use checked_tree::{CheckedExpr, ImageBlock, Member, PointerSum, Scalar, Sum};
+use checked_tree::{CheckedExpr, ImageBlock, Member, PointerSum, Scalar, Sum, copied_sum};
 use deputy_rules::{Asked, AskedCond, Derived, Place, Pointed, DerivingRefusal, Source, Value, Whole, Written};
 use deputy_types::{Element, has_names};
 use sd_base::CheckKind;
@@ -115,8 +114,8 @@ fn address_at(
 {
     let form = address_form(alloc, place.form)?;
     let at = place.at;
-    let low = copy_sum(alloc, &at)?;
-    let high = beyond(copy_sum(alloc, &at)?, i64::from(ctx.size_of(key)))?;
+    let low = copied_sum(alloc, &at)?;
+    let high = beyond(copied_sum(alloc, &at)?, i64::from(ctx.size_of(key)))?;
     Ok(pointer(Pointed {
         form,
         elem: key,
@@ -299,7 +298,7 @@ fn not_ended(
     if !wanted {
         return Ok(Items::new(alloc));
     }
-    let at = copy_sum(alloc, at)?;
+    let at = copied_sum(alloc, at)?;
     let id = ask(
         ctx,
         CheckKind::Term,
@@ -345,8 +344,8 @@ fn moved_text(
     }) }
 {
     let form = moved_form(alloc, PointerSum::PointerPlus, from.form, by, size, checks)?;
-    let low = copy_sum(alloc, &at)?;
-    let high = copy_sum(alloc, &at)?;
+    let low = copied_sum(alloc, &at)?;
+    let high = copied_sum(alloc, &at)?;
     Ok(Pointed {
         form,
         elem: from.elem,

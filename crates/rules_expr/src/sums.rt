@@ -2,7 +2,7 @@
 ghost use Rattle.std.specs.Prelude.{◌≡◌, map, IfOk};
 ghost use Rattle.deputy_rules.specs.Sums as spec;
 
-use crate::copies::copy_form;
+use crate::copies::boxed_copy;
 use checked_tree::{CheckedExpr, Part, Sum, bare};
 use deputy_rules::{Whole, Written};
 use sqlite_items::{Boxed, Items};
@@ -111,7 +111,7 @@ fn scaled_part(alloc: Global, n: i64, part: &Part) -> Result<Part, AllocError>
             value: *value,
         }),
         Part::Atom { times: _, atom } => {
-            let atom = copy_form(alloc, atom.get())?;
+            let atom = boxed_copy(alloc, atom.get())?;
             Ok(Part::Atom { times: n, atom })
         }
     }

@@ -8,11 +8,11 @@ ghost use Rattle.checked_tree.specs.declared.expressions.CheckedExpr.TheVariants
 ghost use Rattle.checked_tree.specs.declared.shapes.Scalar.TheVariants as scalar;
 
 use crate::Context;
-use crate::copies::{copy_form, copy_sum};
+use crate::copies::boxed_copy;
 use crate::forms::{address_form, load_form, local_form};
 use crate::names::{high_sum, low_sum, of_slots, of_struct, slot_sum};
 use crate::sums::{atom, with_part};
-use checked_tree::{Bounds, CheckedExpr, Part, Scalar, Shape, Sum};
+use checked_tree::{Bounds, CheckedExpr, Part, Scalar, Shape, Sum, copied_sum};
 use deputy_rules::{ArrayPlace, Derived, Naming, Place, Pointed, DerivingRefusal, Source, Value, Whole, Written};
 use deputy_types::Element;
 use sqlite_items::Boxed;
@@ -239,8 +239,8 @@ pub fn container(alloc: Global, place: &CheckedExpr) -> Result<Boxed<CheckedExpr
             place: outer,
             offset: _,
             checks: _,
-        } => copy_form(alloc, outer.get()),
-        _ => copy_form(alloc, place),
+        } => boxed_copy(alloc, outer.get()),
+        _ => boxed_copy(alloc, place),
     }
 }
 
@@ -346,10 +346,10 @@ pub fn array_value(alloc: Global, ctx: &Context<'_>, array: ArrayPlace) -> Resul
         elem,
         count,
     } = array;
-    let low = copy_sum(alloc, &at)?;
+    let low = copied_sum(alloc, &at)?;
     let value = i64::from(ctx.size_of(elem));
     let times = i64::from(count);
-    let high = with_part(copy_sum(alloc, &at)?, Part::Constant { times, value })?;
+    let high = with_part(copied_sum(alloc, &at)?, Part::Constant { times, value })?;
     let form = address_form(alloc, form)?;
     Ok(Value::Pointer(Pointed {
         form,

@@ -8,11 +8,9 @@ ghost use Rattle.checked_tree.specs.declared.shapes.Shape.TheVariants as shaped;
 use crate::coerce::coerce_to;
 use crate::convert::{converted_side, handed};
 use c_tree::Expr;
-use checked_tree::{Argument, Bounds, Scalar, Shape, Sum};
+use checked_tree::{Argument, Bounds, Scalar, Shape, Sum, copied_sum, copied_part};
 use deputy_rules::{Asked, Derived, Handed, Names, Naming, Passed, DerivingRefusal};
-use rules_expr::{
-    Context, Ids, copy_form, copy_part, copy_sum, derive, integer_of, is_nullterm, sum_of,
-};
+use rules_expr::{Context, Ids, boxed_copy, derive, integer_of, is_nullterm, sum_of};
 use sqlite_items::Items;
 use std::alloc::{AllocError, Global};
 
@@ -140,8 +138,8 @@ fn passed_sum(alloc: Global, passed: &Passed) -> Result<Sum, AllocError>
             scalar: _,
             form: _,
             side,
-        } => sum_of(alloc, copy_part(alloc, side)?),
-        Passed::Pointer(h) => copy_sum(alloc, &h.at),
+        } => sum_of(alloc, copied_part(alloc, side)?),
+        Passed::Pointer(h) => copied_sum(alloc, &h.at),
     }
 }
 
@@ -178,11 +176,11 @@ pub(crate) fn passed_argument(alloc: Global, passed: &Passed) -> Result<Argument
             side: _,
         } => Ok(Argument {
             scalar: *scalar,
-            value: copy_form(alloc, form.get())?,
+            value: boxed_copy(alloc, form.get())?,
         }),
         Passed::Pointer(h) => Ok(Argument {
             scalar: Scalar::Pointer { size: 0 },
-            value: copy_form(alloc, h.form.get())?,
+            value: boxed_copy(alloc, h.form.get())?,
         }),
     }
 }

@@ -7,13 +7,10 @@ ghost use Rattle.deputy_types.specs.Table as table;
 ghost use Rattle.rules_stmt.specs.AreFewSlots.{AreFewSlots};
 
 use crate::coerce::{Fit, coerce};
-use checked_tree::{Bounds, CheckedExpr, Member, Part, Scalar, Shape, Sum, UnionShape};
+use checked_tree::{Bounds, CheckedExpr, Member, Part, Scalar, Shape, Sum, UnionShape, copied_sum};
 use deputy_rules::{Asked, AskedCond, Change, Names, Naming, Place, DerivingRefusal};
 use deputy_types::{Element, TypeTable, bounds_name};
-use rules_expr::{
-    Context, Ids, ask, atom_part, beyond, container, copy_form, copy_sum, high_sum, load_form,
-    low_sum, name_sum, one, with_part,
-};
+use rules_expr::{Context, Ids, ask, atom_part, beyond, boxed_copy, container, high_sum, load_form, low_sum, name_sum, one, with_part};
 use sd_base::CheckKind;
 use sqlite_items::{Boxed, Items, at};
 use std::alloc::{AllocError, Global};
@@ -61,10 +58,10 @@ fn change_at(
 ) -> Result<Ids, DerivingRefusal>
     ensures { Derives (spec.change_at ctx.now update.now.before update.now.after bounds.now key at asked.old) result asked.new }
 {
-    let low = low_sum(alloc, ctx, &update.before, copy_sum(alloc, &at)?, bounds)?;
-    let high = high_sum(alloc, ctx, &update.before, copy_sum(alloc, &at)?, bounds)?;
-    let lower = low_sum(alloc, ctx, &update.after, copy_sum(alloc, &at)?, bounds)?;
-    let higher = high_sum(alloc, ctx, &update.after, copy_sum(alloc, &at)?, bounds)?;
+    let low = low_sum(alloc, ctx, &update.before, copied_sum(alloc, &at)?, bounds)?;
+    let high = high_sum(alloc, ctx, &update.before, copied_sum(alloc, &at)?, bounds)?;
+    let lower = low_sum(alloc, ctx, &update.after, copied_sum(alloc, &at)?, bounds)?;
+    let higher = high_sum(alloc, ctx, &update.after, copied_sum(alloc, &at)?, bounds)?;
     let fit = Fit {
         at,
         low,

@@ -5,10 +5,10 @@ ghost use Rattle.deputy_rules.specs.Deriving.{Derives};
 ghost use Rattle.deputy_rules.specs.declared.asked.AskedCond.TheVariants as cond;
 ghost use Rattle.deputy_rules.specs.Values as values;
 
-use checked_tree::{Bounds, Part, Sum};
+use checked_tree::{Bounds, Part, Sum, copied_sum};
 use deputy_rules::{Asked, AskedCond, Handed, Naming, DerivingRefusal};
 use deputy_types::Element;
-use rules_expr::{Context, Ids, ask, copy_sum, high_sum, low_sum, one, with_part};
+use rules_expr::{Context, Ids, ask, high_sum, low_sum, one, with_part};
 use sd_base::CheckKind;
 use sqlite_items::Items;
 use std::alloc::Global;
@@ -40,9 +40,9 @@ fn ask_guarded(
 ) -> Result<usize, DerivingRefusal>
     ensures { Derives (asking.ask ctx.now kind (cond.Guarded left.now right.now guard.now) asked.old) result asked.new }
 {
-    let left = copy_sum(alloc, left)?;
-    let right = copy_sum(alloc, right)?;
-    let guard = copy_sum(alloc, guard)?;
+    let left = copied_sum(alloc, left)?;
+    let right = copied_sum(alloc, right)?;
+    let guard = copied_sum(alloc, guard)?;
     ask(ctx, kind, AskedCond::Guarded { left, right, guard }, asked)
 }
 
@@ -58,9 +58,9 @@ fn ask_multiple(
 ) -> Result<usize, DerivingRefusal>
     ensures { Derives (asking.ask ctx.now kind (cond.Aligned at.now low.now size at.now) asked.old) result asked.new }
 {
-    let value = copy_sum(alloc, at)?;
-    let low = copy_sum(alloc, low)?;
-    let guard = copy_sum(alloc, at)?;
+    let value = copied_sum(alloc, at)?;
+    let low = copied_sum(alloc, low)?;
+    let guard = copied_sum(alloc, at)?;
     let aligned = AskedCond::Aligned {
         value,
         low,
@@ -129,9 +129,9 @@ fn coerce_within(
         return Ok(Items::new(alloc));
     }
     let fit = Fit {
-        at: copy_sum(alloc, &h.at)?,
-        low: copy_sum(alloc, &h.low)?,
-        high: copy_sum(alloc, &h.high)?,
+        at: copied_sum(alloc, &h.at)?,
+        low: copied_sum(alloc, &h.low)?,
+        high: copied_sum(alloc, &h.high)?,
         lower,
         higher,
         size,
@@ -154,8 +154,8 @@ fn coerce_bounded(
         (spec.coerce_within ctx.now h.now (values.low_sum ctx.now naming.now h.now.at bounds.now) (values.high_sum ctx.now naming.now h.now.at bounds.now) (values.size_of ctx.now key) asked.old)
         result asked.new }
 {
-    let lower = low_sum(alloc, ctx, naming, copy_sum(alloc, &h.at)?, bounds)?;
-    let higher = high_sum(alloc, ctx, naming, copy_sum(alloc, &h.at)?, bounds)?;
+    let lower = low_sum(alloc, ctx, naming, copied_sum(alloc, &h.at)?, bounds)?;
+    let higher = high_sum(alloc, ctx, naming, copied_sum(alloc, &h.at)?, bounds)?;
     coerce_within(alloc, ctx, h, lower, higher, ctx.size_of(key), asked)
 }
 
@@ -198,7 +198,7 @@ pub(crate) fn coerce_counted(
         times: count,
         value: i64::from(size),
     };
-    let higher = with_part(copy_sum(alloc, &h.at)?, reach)?;
-    let lower = copy_sum(alloc, &h.at)?;
+    let higher = with_part(copied_sum(alloc, &h.at)?, reach)?;
+    let lower = copied_sum(alloc, &h.at)?;
     coerce_within(alloc, ctx, h, lower, higher, size, asked)
 }

@@ -6,40 +6,17 @@ ghost use Rattle.deputy_rules.specs.Operators.{same_truth};
 ghost use Rattle.deputy_rules.specs.Pointers as pointers;
 ghost use Rattle.deputy_types.specs.Types as types;
 
-use checked_tree::{CheckedExpr, Part, Scalar, Unary, converted};
+use checked_tree::{CheckedExpr, Part, Scalar, Unary, converted, has_all};
 use deputy_rules::{Derived, Handed, Pointed, DerivingRefusal, Value, Whole};
 use deputy_types::Element;
-use rules_expr::{
-    Context, atom_part, constant, constant_of, constant_part, copy_form, is_written, null_form,
-    same_element, unary_form, value_of,
-};
+use rules_expr::{Context, atom_part, boxed_copy, constant, constant_of, constant_part, is_written, null_form, same_element, unary_form, value_of};
 use std::alloc::{AllocError, Global};
-
-/// Whether the first type has every value of the second.
-#[tactic(auto, unfolding(deputy_rules::specs::Coercion::has_all))]
-fn has_all(to: Scalar, from: Scalar) -> bool
-    ensures { result ≡ spec.has_all to from }
-{
-    match to {
-        Scalar::U8 => matches!(from, Scalar::U8),
-        Scalar::I8 => matches!(from, Scalar::I8),
-        Scalar::U16 => matches!(from, Scalar::U8 | Scalar::U16),
-        Scalar::I16 => matches!(from, Scalar::U8 | Scalar::I8 | Scalar::I16),
-        Scalar::I32 => matches!(
-            from,
-            Scalar::U8 | Scalar::I8 | Scalar::U16 | Scalar::I16 | Scalar::I32
-        ),
-        Scalar::U32 => matches!(from, Scalar::U8 | Scalar::U16 | Scalar::U32),
-        Scalar::Void => false,
-        Scalar::Pointer { size: _ } => false,
-    }
-}
 
 /// The cast of an expression in a check.
 fn cast_part(alloc: Global, scalar: Scalar, form: &CheckedExpr) -> Result<Part, AllocError>
     ensures { IfOk result (λ p. p ≡ spec.cast_part scalar form.now) }
 {
-    let cast = unary_form(alloc, Unary::Cast, scalar, copy_form(alloc, form)?)?;
+    let cast = unary_form(alloc, Unary::Cast, scalar, boxed_copy(alloc, form)?)?;
     atom_part(alloc, cast.get())
 }
 

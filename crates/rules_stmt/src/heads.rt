@@ -8,9 +8,9 @@ use crate::declared::result_of;
 use crate::head_parameters::is_declared;
 use crate::texts::SeenText;
 use c_tree::{Function, Head, Local, Param};
-use checked_tree::Shape;
 use dep_infer::LocalTable;
-use deputy_types::{NameList, kernel_named};
+use checked_tree::{Shape, kernel_named};
+use deputy_types::NameList;
 use sd_base::{Memory, Name};
 use std::alloc::Global;
 

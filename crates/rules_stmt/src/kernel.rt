@@ -2,10 +2,10 @@
 ghost use Rattle.std.specs.Prelude.{◌≡◌, if◌then◌else◌, Some, None, [], ◌∷◌, option_copied};
 ghost use Rattle.checked_tree.specs.declared.statements.CheckedStmt.TheVariants as statement;
 ghost use Rattle.checked_tree.specs.declared.kernel.KernelName.TheVariants as kernel;
-ghost use Rattle.deputy_types.specs.declared.kernel_calls.ArgumentKind.TheVariants as argument;
+ghost use Rattle.checked_tree.specs.declared.kernel_table.ParameterKind.TheVariants as argument;
 ghost use Rattle.deputy_rules.specs.Calls as spec;
 ghost use Rattle.deputy_rules.specs.Coercion as coercion;
-ghost use Rattle.deputy_types.specs.KernelCalls.{kernel_row};
+ghost use Rattle.checked_tree.specs.KernelTable.{kernel_row as row_of};
 ghost use Rattle.deputy_rules.specs.Deriving.{Derives, Yields, bind, lift, pure};
 ghost use Rattle.deputy_types.specs.Options.{and_then};
 ghost use Rattle.deputy_rules.specs.Values.{value_of as value_in};
@@ -14,12 +14,11 @@ use crate::calls::call_named;
 use crate::convert::{handed, handed_over, null, null_number};
 use crate::functions::Functions;
 use crate::handlers::handler;
-use crate::kernel_rows::{answers, argument_kinds};
 use crate::targets::{automatic_target, call_target, free_slot};
 use c_tree::{Expr, TypeName};
-use checked_tree::{Argument, CheckedStmt, KernelName, PointerOperand, Scalar, Shape, Target};
+use checked_tree::{Argument, CheckedStmt, KernelName, KernelResult, ParameterKind, PointerOperand, Scalar, Shape, Target, kernel_named, kernel_row};
 use deputy_rules::{Asked, Derived, Handed, KernelArguments, Pointed, DerivingRefusal, Returned, Value};
-use deputy_types::{ArgumentKind, Element, kernel_named};
+use deputy_types::Element;
 use rules_expr::{Context, derive, integer_of, promoted, value_of};
 use sd_base::Name;
 use sqlite_items::Items;
@@ -109,12 +108,13 @@ fn handler_argument(
     }
 }
 
-/// One argument of a kernel call, behind those that are there.
+/// One argument of a kernel call, behind those that are there. No rule for what `kalloc` and `kfree` take.
+#[tactic(auto, unfolding(deputy_rules::specs::Calls::kernel_argument))]
 fn kernel_argument(
     alloc: Global,
     ctx: &Context<'_>,
     functions: &Functions,
-    kind: ArgumentKind,
+    kind: ParameterKind,
     e: &Expr,
     given: KernelArguments,
     asked: &mut Items<Asked>,
@@ -122,9 +122,11 @@ fn kernel_argument(
     ensures { Derives (spec.kernel_argument ctx.now functions.now kind e.now given asked.old) result asked.new }
 {
     match kind {
-        ArgumentKind::Number => number_argument(alloc, ctx, functions, e, given, asked),
-        ArgumentKind::Text => text_argument(alloc, ctx, functions, e, given, asked),
-        ArgumentKind::Handler => handler_argument(ctx, functions, e, given, asked),
+        ParameterKind::Number => number_argument(alloc, ctx, functions, e, given, asked),
+        ParameterKind::Text => text_argument(alloc, ctx, functions, e, given, asked),
+        ParameterKind::Handler => handler_argument(ctx, functions, e, given, asked),
+        ParameterKind::Element => Err(DerivingRefusal::NoRule),
+        ParameterKind::Block => Err(DerivingRefusal::NoRule),
     }
 }
 
@@ -134,7 +136,7 @@ fn kernel_arguments(
     alloc: Global,
     ctx: &Context<'_>,
     functions: &Functions,
-    kinds: &[ArgumentKind],
+    kinds: &[ParameterKind],
     args: &[Expr],
     asked: &mut Items<Asked>,
 ) -> Result<KernelArguments, DerivingRefusal>
@@ -157,23 +159,23 @@ fn kernel_arguments(
     }
 }
 
-/// What a kernel call answers.
-fn kernel_result(answers: bool) -> Returned
-    ensures { Some result ≡ spec.kernel_result answers }
+/// What a kernel call gives back. None where it is a block.
+fn kernel_result(given: KernelResult) -> Option<Returned>
+    ensures { result ≡ spec.kernel_result given }
 {
-    if answers {
-        Returned::Value(Shape::Int(Scalar::I32))
-    } else {
-        Returned::Nothing
+    match given {
+        KernelResult::Nothing => Some(Returned::Nothing),
+        KernelResult::Number => Some(Returned::Value(Shape::Int(Scalar::I32))),
+        KernelResult::Block => None,
     }
 }
 
 /// The target of a kernel call.
 fn kernel_target(ctx: &Context<'_>, name: KernelName, x: Option<&Name>) -> Option<Option<Target>>
-    ensures { result ≡ spec.call_target ctx.now (spec.kernel_result (kernel_row name).answers) (option_copied x.entry) }
+    ensures { result ≡ spec.call_target ctx.now (spec.kernel_result (row_of name).result) (option_copied x.entry) }
 {
-    let returned = kernel_result(answers(name));
-    call_target(ctx, Some(&returned), x)
+    let returned = kernel_result(kernel_row(name).result);
+    call_target(ctx, returned.as_ref(), x)
 }
 
 /// The form of a kernel call without an element type.
@@ -212,8 +214,8 @@ fn call_kernel(
 {
     match kernel_target(ctx, name, x) {
         Some(target) => {
-            let kinds = argument_kinds(alloc, name)?;
-            let given = kernel_arguments(alloc, ctx, functions, kinds.as_slice(), args, asked)?;
+            let kinds = kernel_row(name).parameters;
+            let given = kernel_arguments(alloc, ctx, functions, kinds, args, asked)?;
             Ok(kernel_form(ctx, target, name, given))
         }
         None => Err(DerivingRefusal::NoRule),

@@ -16,7 +16,6 @@ mod handlers;
 mod head_parameters;
 mod heads;
 mod kernel;
-mod kernel_rows;
 mod results;
 mod shape_copies;
 mod stmts;

@@ -3,12 +3,10 @@ ghost use Rattle.std.specs.Prelude.{◌≡◌, IfOk, option_copied, unwrap_or, o
 ghost use Rattle.deputy_rules.specs.Changes as spec;
 ghost use Rattle.deputy_rules.specs.Deriving.{Derives};
 
-use checked_tree::{Part, Scalar, Sum, UnionShape};
+use checked_tree::{Part, Scalar, Sum, UnionShape, copied_sum};
 use deputy_rules::{Asked, AskedCond, Place, DerivingRefusal};
 use deputy_types::TypeTable;
-use rules_expr::{
-    Context, Ids, ask, atom_part, beyond, copy_form, copy_sum, load_form, one, with_part,
-};
+use rules_expr::{Context, Ids, ask, atom_part, beyond, boxed_copy, load_form, one, with_part};
 use sd_base::CheckKind;
 use sqlite_items::{Items, at};
 use std::alloc::{AllocError, Global};
@@ -52,7 +50,7 @@ fn union_address(at: Sum, tag: u32, part: u32) -> Result<Sum, AllocError>
 fn loaded(alloc: Global, scalar: Scalar, place: &Place) -> Result<Part, AllocError>
     ensures { IfOk result (λ p. p ≡ spec.loaded scalar place.now) }
 {
-    let form = load_form(alloc, scalar, copy_form(alloc, place.form.get())?)?;
+    let form = load_form(alloc, scalar, boxed_copy(alloc, place.form.get())?)?;
     atom_part(alloc, form.get())
 }
 
@@ -73,7 +71,7 @@ fn ask_kept(
     let kept = AskedCond::Kept {
         old: loaded(alloc, scalar, place)?,
         new,
-        at: union_address(copy_sum(alloc, &place.at)?, offset, union.offset)?,
+        at: union_address(copied_sum(alloc, &place.at)?, offset, union.offset)?,
         size: union.size,
     };
     let id = ask(ctx, CheckKind::Change, kept, asked)?;

@@ -13,7 +13,6 @@ use crate::declared::{Shapes, parameter_shapes, result_of, slot_shapes};
 use crate::head_parameters::wrong_in_head;
 use crate::heads::{function_stands, head_stands, wrong_declaration};
 use crate::results::{result_scalar, shapes_of};
-use crate::shape_copies::{copy_blocks, copy_shapes, copy_structs};
 use crate::stmts::check_each;
 use crate::texts::SeenText;
 use c_tree::{Function, Head, Item, LimitKind, Unit};
@@ -198,23 +197,30 @@ fn check_items(alloc: Global, text: &SeenText<'_>) -> Result<Items<CheckedFn>, R
     Ok(done)
 }
 
-/// Checks a unit, of whose declarations `types` is the table: exactly the checked unit that the rules derive. `NoRule` with the line of the first head, parameter, local
-/// or statement in text order that no rule derives, and `Limit(line, Locals)` at the head of a function with more than 128 slots, `NoRule` first on the same head.
-#[tactic(auto, using(crate::proofs::LaidOut::laid_out, crate::proofs::ShortItems::items_short), unfolding(deputy_rules::specs::Functions::checked, deputy_rules::specs::Functions::text_of))]
-pub fn check_unit(alloc: Global, unit: &Unit, types: &TypeTable) -> Result<CheckedUnit, RuleRefusal>
+/// The functions of a unit with this table, in text order.
+#[tactic(auto, using(crate::proofs::LaidOut::laid_out, crate::proofs::ShortItems::items_short), unfolding(deputy_rules::specs::Functions::text_of))]
+fn check_functions(
+    alloc: Global,
+    unit: &Unit,
+    types: &TypeTable,
+) -> Result<Items<CheckedFn>, RuleRefusal>
     requires short { IsShortUnit unit.now }
     requires laid { layout unit.now ≡ Ok types.now }
-    ensures { IsChecked (spec.checked types.now unit.now) result }
+    ensures { IsChecked (spec.check_items (spec.text_of types.now unit.now.items) unit.now.items []) result }
 {
     let text = SeenText::new(alloc, types, unit.items.as_slice())?;
-    let functions = check_items(alloc, &text)?;
-    let image = copy_blocks(alloc, types.image())?;
-    let structs = copy_structs(alloc, types.structs())?;
-    let elems = copy_shapes(alloc, types.elems())?;
-    Ok(CheckedUnit {
-        functions,
-        image,
-        structs,
-        elems,
-    })
+    check_items(alloc, &text)
+}
+
+/// Checks a unit, of whose declarations `types` is the table: exactly the checked unit that the rules derive. `NoRule` with the line of the first head, parameter, local
+/// or statement in text order that no rule derives, and `Limit(line, Locals)` at the head of a function with more than 128 slots, `NoRule` first on the same head.
+/// The table's load image, structs and elements are moved into the unit.
+#[tactic(auto, unfolding(deputy_rules::specs::Functions::checked))]
+pub fn check_unit(alloc: Global, unit: &Unit, types: TypeTable) -> Result<CheckedUnit, RuleRefusal>
+    requires short { IsShortUnit unit.now }
+    requires laid { layout unit.now ≡ Ok types }
+    ensures { IsChecked (spec.checked types unit.now) result }
+{
+    let functions = check_functions(alloc, unit, &types)?;
+    Ok(types.into_unit(functions))
 }

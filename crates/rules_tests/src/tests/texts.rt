@@ -43,7 +43,7 @@ fn checked(alloc: Global, unit: Unit) -> Outcome
         Ok(types) => types,
         Err(refusal) => return Outcome::Undeclared(refusal),
     };
-    match check_unit(alloc, &unit, &types) {
+    match check_unit(alloc, &unit, types) {
         Ok(checked) => Outcome::Checked(unit, checked),
         Err(refusal) => Outcome::Underived(refusal),
     }

@@ -60,9 +60,7 @@ cq = &*t;
   no rule
 cq = &t[0];
   no rule
-cq = &*\"ab\// strings
-tt = \"ab\";
-
+cq = &*\"ab\";
   no rule
 q = &5;
   no rule
@@ -78,8 +76,8 @@ q = &(void *)0;
   no rule
 x = &gi;
   no rule
-";
-
+// strings
+tt = \"ab\";
 tt = \"\";
 tt = t;
 tt = gt;

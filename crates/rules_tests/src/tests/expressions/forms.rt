@@ -185,7 +185,6 @@ sq = &h[1];
 cq = g.u.q;
   3 cq with cq.low = p0:b16.28#1 in [p0:b16.28, p0:b16.28 + 1);
 tt = \"ab\";
-
   3 tt = p0 &b288;
 tt = \"ab\" + 1;
   3 tt = p0 (&b288 + 1*1)#1;

@@ -73,12 +73,94 @@ x = (0) != p;
 x = p == (void *)0;
 x = (void *)0 != p;
 x = t == gt;
-x = t < \"ab\// logic
+x = t < \"ab\";
+x = t == 0;
+x = t != (void *)0;
+x = sp == &g;
+x = pp == qq;
+x = p + 1 == hi;
+  Null -p+1
+  Bound -4
+  Bound -4*n+4
+x = p < 0;
+  no rule
+x = 0 <= p;
+  no rule
+x = p < (void *)0;
+  no rule
+x = p == 1;
+  no rule
+x = p == i;
+  no rule
+x = i == p;
+  no rule
+x = p == 0u;
+  no rule
+x = p == '\\0';
+  no rule
+x = p == -0;
+  no rule
+x = p == cq;
+  no rule
+x = p == pp;
+  no rule
+x = p == sp;
+  no rule
+x = t == cq;
+  no rule
+x = cq < t;
+  no rule
+x = (void *)0 == (void *)0;
+  no rule
+x = (void *)0 == 0;
+  no rule
+x = i == (void *)0;
+  no rule
+x = g == g;
+  no rule
+x = g.u == 0;
+  no rule
+x = f == 0;
+  no rule
+// logic
 x = !i;
 x = !p;
 x = !t;
 x = !a;
-x = !\"ab\// integers
+x = !\"ab\";
+x = !!p;
+x = i && n;
+x = p && i;
+x = i || p;
+x = p || t;
+x = p && p[0];
+  Null -p+1
+  Bound 0
+  Bound -4*n+4
+x = *lo || *hi;
+  Null -lo+1
+  Bound 0
+  Null -hi+1
+  Bound 0
+x = !g;
+  no rule
+x = !g.u;
+  no rule
+x = !(void *)0;
+  no rule
+x = i && (void *)0;
+  no rule
+x = (void *)0 || p;
+  no rule
+x = p && (void *)0;
+  no rule
+x = (void *)0 && (void *)0;
+  no rule
+x = g || i;
+  no rule
+x = i && f;
+  no rule
+// integers
 x = i + n * 2 - 3 & 4 | 5 ^ ~6 << 7 >> u;
 x = -i;
 x = +ch;
@@ -153,90 +235,6 @@ x = sizeof(signed char *nullterm);
 x = sizeof(struct nowhere);
   no rule
 x = sizeof(struct nowhere *);
-  no rule
-";
-
-x = t == 0;
-x = t != (void *)0;
-x = sp == &g;
-x = pp == qq;
-x = p + 1 == hi;
-  Null -p+1
-  Bound -4
-  Bound -4*n+4
-x = p < 0;
-  no rule
-x = 0 <= p;
-  no rule
-x = p < (void *)0;
-  no rule
-x = p == 1;
-  no rule
-x = p == i;
-  no rule
-x = i == p;
-  no rule
-x = p == 0u;
-  no rule
-x = p == '\\0';
-  no rule
-x = p == -0;
-  no rule
-x = p == cq;
-  no rule
-x = p == pp;
-  no rule
-x = p == sp;
-  no rule
-x = t == cq;
-  no rule
-x = cq < t;
-  no rule
-x = (void *)0 == (void *)0;
-  no rule
-x = (void *)0 == 0;
-  no rule
-x = i == (void *)0;
-  no rule
-x = g == g;
-  no rule
-x = g.u == 0;
-  no rule
-x = f == 0;
-  no rule
-";
-
-x = !!p;
-x = i && n;
-x = p && i;
-x = i || p;
-x = p || t;
-x = p && p[0];
-  Null -p+1
-  Bound 0
-  Bound -4*n+4
-x = *lo || *hi;
-  Null -lo+1
-  Bound 0
-  Null -hi+1
-  Bound 0
-x = !g;
-  no rule
-x = !g.u;
-  no rule
-x = !(void *)0;
-  no rule
-x = i && (void *)0;
-  no rule
-x = (void *)0 || p;
-  no rule
-x = p && (void *)0;
-  no rule
-x = (void *)0 && (void *)0;
-  no rule
-x = g || i;
-  no rule
-x = i && f;
   no rule
 ";
 

@@ -66,7 +66,6 @@ x = *t;
 x = *gt;
   Null -p0:b112+1
 x = *\"ab\";
-
 x = **t;
   no rule
 x = *(void *)0;

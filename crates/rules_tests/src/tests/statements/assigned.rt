@@ -48,7 +48,88 @@ gp = gc;
   Align 0 by 4 | p0:b160
 gp = 0;
 gt = t;
-gt = \"ab\// fields that siblings name, and arms and tags of unions
+gt = \"ab\";
+gt = 0;
+gt = cq;
+  no rule
+gp = x;
+  no rule
+gp = cq;
+  no rule
+gi = q;
+  no rule
+*t = 5;
+  Null -t+1
+  Term at t new 5
+*t = 0;
+  Null -t+1
+  Term at t new 0
+*t = x;
+  Null -t+1
+  Term at t new u8(x)
+*t = ch;
+  Null -t+1
+  Term at t new ch
+*t = 256;
+  Null -t+1
+  Term at t new 0
+*t = -1;
+  Null -t+1
+  Term at t new 255
+*t = *t;
+  Null -t+1
+  Null -t+1
+  Term at t new u8:*t
+*t = w;
+  Null -t+1
+  Term at t new u8(w)
+t[0] = 'a';
+  Null -t+1
+  Term at t new 97
+t[1] = 'a';
+  Null -t+1
+  Term at t
+  Term at t+1 new 97
+*gt = 1;
+  Null -p0:b128+1
+  Term at p0:b128 new 1
+*\"ab\" = 'x';
+  Term at 224 new 120
+t[2] = 1;
+  no rule
+*t = t;
+  no rule
+a = p;
+  no rule
+g = g;
+  no rule
+*sp = s;
+  no rule
+g.u = 0;
+  no rule
+5 = x;
+  no rule
+&gi = p;
+  no rule
+\"ab\" = t;
+  no rule
+-x = 1;
+  no rule
+f = 1;
+  no rule
+printd = 1;
+  no rule
+nowhere = 1;
+  no rule
+s.nothing = 1;
+  no rule
+*x = 1;
+  no rule
+(void *)0 = 0;
+  no rule
+nowhere = nowhere;
+  no rule
+// fields that siblings name, and arms and tags of unions
 s.len = 5;
   Change 0 | p0:b32.4
   Change 0 | p0:b32.4
@@ -195,88 +276,6 @@ zero(a);
 zero(q);
   no rule
 zero(nowhere);
-  no rule
-";
-
-gt = 0;
-gt = cq;
-  no rule
-gp = x;
-  no rule
-gp = cq;
-  no rule
-gi = q;
-  no rule
-*t = 5;
-  Null -t+1
-  Term at t new 5
-*t = 0;
-  Null -t+1
-  Term at t new 0
-*t = x;
-  Null -t+1
-  Term at t new u8(x)
-*t = ch;
-  Null -t+1
-  Term at t new ch
-*t = 256;
-  Null -t+1
-  Term at t new 0
-*t = -1;
-  Null -t+1
-  Term at t new 255
-*t = *t;
-  Null -t+1
-  Null -t+1
-  Term at t new u8:*t
-*t = w;
-  Null -t+1
-  Term at t new u8(w)
-t[0] = 'a';
-  Null -t+1
-  Term at t new 97
-t[1] = 'a';
-  Null -t+1
-  Term at t
-  Term at t+1 new 97
-*gt = 1;
-  Null -p0:b128+1
-  Term at p0:b128 new 1
-*\"ab\" = 'x';
-  Term at 224 new 120
-t[2] = 1;
-  no rule
-*t = t;
-  no rule
-a = p;
-  no rule
-g = g;
-  no rule
-*sp = s;
-  no rule
-g.u = 0;
-  no rule
-5 = x;
-  no rule
-&gi = p;
-  no rule
-\"ab\" = t;
-  no rule
--x = 1;
-  no rule
-f = 1;
-  no rule
-printd = 1;
-  no rule
-nowhere = 1;
-  no rule
-s.nothing = 1;
-  no rule
-*x = 1;
-  no rule
-(void *)0 = 0;
-  no rule
-nowhere = nowhere;
   no rule
 ";
 

@@ -111,7 +111,9 @@ x = g;
   no rule
 x = f;
   no rule
-x = \"ab\// pointer locals
+x = \"ab\";
+  no rule
+// pointer locals
 l = q;
   Bound q.low-q | q
   Bound 0 | q
@@ -276,9 +278,6 @@ q = &x;
 q = g;
   no rule
 q = f;
-  no rule
-";
-
   no rule
 ";
 

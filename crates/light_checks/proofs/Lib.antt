@@ -26,4 +26,5 @@ pub mod Bodies
 pub mod SmallChecks
 pub mod Units
 pub mod ExpressionAlone
+pub mod PointerBounds
 mod Examples

@@ -9,3 +9,4 @@ pub mod Weights
 pub mod Within
 pub mod Words
 pub mod SumLimits
+pub mod PointerBounds

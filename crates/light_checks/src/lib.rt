@@ -13,5 +13,5 @@ pub use laws::{
     an_expression_has_numbers, light_checks_have_numbers,
 };
 pub use sums::{
-    a_light_sum_reaches_no_limit, a_small_form_reaches_no_limit, derived_checks_are_small,
+    a_pointers_bounds_reach_no_limit, a_small_form_reaches_no_limit, derived_checks_are_small,
 };

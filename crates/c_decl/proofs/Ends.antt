@@ -7,9 +7,9 @@ use Rattle.c_tree.specs.declared.words.Token.{Token}
 use Rattle.c_tree.specs.ItemGrammar.{ItemAt}
 use Rattle.c_tree.specs.Reading.{Best, Never, Each, each_end, line_at}
 use Rattle.c_tree.specs.Units.{IsUnit, HasNoItem}
-use Rattle.c_token.specs.declared.refusal.ReadRefusal.{ReadRefusal}
-use Rattle.c_token.specs.declared.refusal.ReadRefusal.TheVariants as refusal
-use Rattle.c_token.specs.Answers.{IsUnlessMemory}
+use Rattle.c_decl.specs.declared.refusal.UnitRefusal.{UnitRefusal}
+use Rattle.c_decl.specs.declared.refusal.UnitRefusal.TheVariants as refusal
+use Rattle.c_decl.specs.Answers.{IsUnlessMemory}
 use Rattle.c_decl.proofs.OneItem.{unit_only, unit_or_none, one_line}
 
 -- what stands behind the items that were read is read with them
@@ -47,4 +47,4 @@ pub stop_units : (w : List Token) (n : ℕ) → HasNoItem w n → (u : TextUnit)
 stop_units w n stop u d = absurd (unit_or_none w u n d stop)
 
 pub stop_lines : (w : List Token) (n : ℕ) → HasNoItem w n → (line : ℕ) → HasNoItem w line → IsUnlessMemory {X = TextUnit} (Err (refusal.NoItem n)) (refusal.NoItem line)
-stop_lines w n stop line other = let same : n ≡ line = one_line w n line stop other in let f : ℕ → Result TextUnit ReadRefusal = λ m. Err (refusal.NoItem m) in inl (ap f same)
+stop_lines w n stop line other = let same : n ≡ line = one_line w n line stop other in let f : ℕ → Result TextUnit UnitRefusal = λ m. Err (refusal.NoItem m) in inl (ap f same)

@@ -1,7 +1,10 @@
+pub mod ActionExistence
 pub mod Apart
 pub mod BeginningOf
 pub mod Ends
+pub mod Existence
 pub mod Extended
+pub mod ItemExistence
 pub mod ItemWalks
 pub mod LongestAction
 pub mod LongestDeclaration
@@ -19,5 +22,6 @@ pub mod OneStatement
 pub mod Only
 pub mod Sequences
 pub mod ShortUnits
+pub mod StatementExistence
 pub mod StatementWalks
 pub mod Walks

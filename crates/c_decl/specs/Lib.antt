@@ -1,3 +1,4 @@
+pub mod Answers
 pub mod Actions
 pub mod Arguments
 pub mod Beginnings

@@ -1,5 +1,5 @@
 //! What holds of the grammar of statements, items and whole texts, whatever is read.
-ghost use Rattle.std.specs.Prelude.{◌≡◌, ℕ, List, [], ◌++◌};
+ghost use Rattle.std.specs.Prelude.{◌≡◌, ℕ, ◌⊎◌, List, [], ◌++◌};
 ghost use Rattle.c_tree.specs.declared.items.Item.{Item};
 ghost use Rattle.c_tree.specs.declared.items.Unit.{Unit as TextUnit};
 ghost use Rattle.c_tree.specs.declared.keywords.Keyword.TheVariants as keyword;
@@ -27,8 +27,12 @@ pub fn one_item()
     ensures prefix { (s r : List Token) (x y : Item) → ItemAt s [] x → ItemAt (s ++ r) [] y → r ≡ [] }
 {}
 
-/// A text is at most one unit, and so is a list of words. It is one, or there is a place at which no item begins, on one
-/// line, and not both.
+/// Words, all of them, are a unit, or behind some items there is a place at which no item begins.
+pub fn some_unit()
+    ensures { (w : List Token) → ((x : TextUnit) × IsUnit w x) ⊎ ((line : ℕ) × HasNoItem w line) }
+{}
+
+/// A text is at most one unit, and so is a list of words. A place at which no item begins stands on one line at most, and not where the words are a unit.
 pub fn one_unit()
     ensures texts { (text : Text) (x y : TextUnit) → Reads text x → Reads text y → x ≡ y }
     ensures units { (w : List Token) (x y : TextUnit) → IsUnit w x → IsUnit w y → x ≡ y }

@@ -14,11 +14,10 @@ mod laws;
 mod lines;
 mod params;
 mod reader;
+mod refusal;
 mod statements;
 mod structs;
 
-pub use laws::{one_item, one_statement, one_unit};
+pub use laws::{one_item, one_statement, one_unit, some_unit};
 pub use reader::read_unit;
-
-#[cfg(test)]
-mod tests;
+pub use refusal::UnitRefusal;

@@ -204,8 +204,14 @@ all_below : (n : ℕ) (w : List Token) → length w < n → All w
 all_below zero w h = absurd (omega arith)
 all_below (suc n) w h = all_here n (λ u fewer. all_below n u fewer) w (omega arith)
 
+pub unary_exists : (w : List Token) → Longest UnaryExpr (Tighter rows) w
+unary_exists w = (all_below (suc (length w)) w (omega arith)).unary
+
 pub row_exists : (l : ℕ) → l ≤ rows → (w : List Token) → Longest (Row l) (Tighter l) w
 row_exists l h w = (all_below (suc (length w)) w (omega arith)).at_row l h
+
+pub closed_exists : (s : Sign) (w : List Token) → sign_strength s ≡ 0 → ((v : List Token) → Sees v (word.Sign s)) → Longest (Closed s) Never w
+closed_exists s w h sees = closed_step s w h sees (row_exists 0 (omega arith) w)
 
 -- ---- a list of words is at most one expression
 same_by : (a : Option (Expr × List Token)) (x y : Expr) → Covered (Tighter 0) [] x a → Covered (Tighter 0) [] y a → x ≡ y

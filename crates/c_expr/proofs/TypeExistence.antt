@@ -128,7 +128,7 @@ star_shrinks : (w v : List Token) (x : Star) → StarAt w v x → length v < len
 star_shrinks w v x (types.plain b) = begins_shrinks w b
 star_shrinks w v x (annotated b d) = let fewer = begins_shrinks w b in let rest = span_shrinks (annotation_span d) in omega arith
 
-abbrev Stars : List Token → Type 0
+abbrev pub Stars : List Token → Type 0
 Stars w = (a : List Star × List Token) × Best {X = List Star} (Each StarAt w) (At is_in_types) (Some a) × (length a.1 ≤ length w)
 
 stars_step : (w : List Token) → ((u : List Token) → length u < length w → Stars u) → Longest StarAt (At is_annotation) w → Stars w
@@ -139,7 +139,7 @@ stars_step w rest (Some a, best) =
     let size = more.2 in
     ((a.0 ∷ more.0.0, more.0.1), stars_on w a.1 a.0 more.0 fewer more.2 best more.1, omega arith)
 
-stars_exist : (n : ℕ) (w : List Token) → length w < n → Stars w
+pub stars_exist : (n : ℕ) (w : List Token) → length w < n → Stars w
 stars_exist zero w h = absurd (omega arith)
 stars_exist (suc n) w h = stars_step w (λ u fewer. stars_exist n u (omega arith)) (star_by w (sees_star w))
 

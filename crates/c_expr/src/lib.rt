@@ -11,6 +11,7 @@ mod look;
 mod members;
 mod operators;
 mod reader;
+mod refusal;
 mod singles;
 mod sums;
 mod type_names;
@@ -20,7 +21,5 @@ pub use expressions::{closed, row, unary};
 pub use laws::{determines_words, one_expression, stands_before_any_words};
 pub use look::{after_keyword, after_sign, first_word, keyword_at, name_at, number_at};
 pub use reader::read_expr;
+pub use refusal::ExpressionRefusal;
 pub use type_names::{stars_at, type_in_parens, type_name_at};
-
-#[cfg(test)]
-mod tests;

@@ -1,6 +1,7 @@
 pub mod AnswerLaws
 pub mod Choices
 pub mod DivisionLaws
+pub mod Ends
 pub mod GapLaws
 pub mod LoopLaws
 pub mod NumberLaws

@@ -40,7 +40,7 @@ lead_of-named : (b : Text) (o : Option Keyword) → lead_of (named b o) ≡ of_n
 lead_of-named b None = refl
 lead_of-named b (Some k) = refl
 
-lead-letter : (c : ℕ) → is_letter c ≡ true → lead c ≡ of_name
+pub lead-letter : (c : ℕ) → is_letter c ≡ true → lead c ≡ of_name
 lead-letter c h = by_tests (is_letter c) (is_digit c) (eqb c 39) (eqb c 34) h
   where
     by_tests : (a b d e : Bool) → a ≡ true → cond a of_name (cond b of_number (cond d of_character (cond e of_string of_other))) ≡ of_name

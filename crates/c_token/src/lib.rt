@@ -14,8 +14,5 @@ mod signs;
 mod tokenizer;
 mod words;
 
-pub use refusal::ReadRefusal;
-pub use tokenizer::{one_division, tokens};
-
-#[cfg(test)]
-mod tests;
+pub use refusal::WordRefusal;
+pub use tokenizer::{one_division, some_end, tokens};

@@ -7,7 +7,7 @@ ghost use Rattle.c_tree.specs.Division.{IsDivision, HasNoWord, PassesLimit};
 ghost use Rattle.c_token.specs.Answers.{IsRefusal, IsUnlessMemory};
 ghost use Rattle.c_token.specs.Feeds.{line_feeds};
 
-use crate::ReadRefusal;
+use crate::WordRefusal;
 use crate::counts::{Counts, passed};
 use crate::gaps::after_gap;
 use crate::lexemes::lexeme_at;
@@ -16,7 +16,7 @@ use c_tree::Token;
 use std::alloc::Global;
 
 /// The division of a text, one gap or word after another.
-fn divide(alloc: Global, text: &[u8]) -> Result<Vec<Token>, ReadRefusal>
+fn divide(alloc: Global, text: &[u8]) -> Result<Vec<Token>, WordRefusal>
     requires { line_feeds text.now ≤ 4294967294 }
     ensures division { IfOk result (λ words. IsDivision text.now words.items) }
     ensures refusal { IfErr result (λ refusal. IsRefusal text.now refusal) }
@@ -34,10 +34,10 @@ fn divide(alloc: Global, text: &[u8]) -> Result<Vec<Token>, ReadRefusal>
             continue;
         }
         let Some(lexeme) = lexeme_at(rest) else {
-            return Err(ReadRefusal::NotAWord(line));
+            return Err(WordRefusal::NotAWord(line));
         };
         if let Some(kind) = passed(&counts, &lexeme) {
-            return Err(ReadRefusal::Limit(line, kind));
+            return Err(WordRefusal::Limit(line, kind));
         }
         let word = word(alloc, &lexeme, counts.strings)?;
         words.push(Token { word, line })?;
@@ -60,7 +60,7 @@ fn divide(alloc: Global, text: &[u8]) -> Result<Vec<Token>, ReadRefusal>
 /// - `Memory`, where memory is wanting.
 ///
 /// Of the first two the one at the earlier byte is given.
-pub fn tokens(alloc: Global, text: &[u8]) -> Result<Vec<Token>, ReadRefusal>
+pub fn tokens(alloc: Global, text: &[u8]) -> Result<Vec<Token>, WordRefusal>
     requires { count_by (λ byte. byte == 10) text.now ≤ 4294967294 }
 
     // What is answered is so.
@@ -69,15 +69,20 @@ pub fn tokens(alloc: Global, text: &[u8]) -> Result<Vec<Token>, ReadRefusal>
 
     // What is so is answered, unless memory is wanting.
     ensures divides { (words : List Token) → IsDivision text.now words → IfOk result (λ answer. answer.items ≡ words) }
-    ensures divides_or_memory { (words : List Token) → IsDivision text.now words → IfErr result (λ refusal. refusal ≡ ReadRefusal.Memory) }
-    ensures has_no_word { (line : ℕ) → HasNoWord text.now line → IsUnlessMemory result (ReadRefusal.NotAWord line) }
-    ensures passes_limit { (line : ℕ) (kind : LimitKind) → PassesLimit text.now line kind → IsUnlessMemory result (ReadRefusal.Limit line kind) }
+    ensures divides_or_memory { (words : List Token) → IsDivision text.now words → IfErr result (λ refusal. refusal ≡ WordRefusal.Memory) }
+    ensures has_no_word { (line : ℕ) → HasNoWord text.now line → IsUnlessMemory result (WordRefusal.NotAWord line) }
+    ensures passes_limit { (line : ℕ) (kind : LimitKind) → PassesLimit text.now line kind → IsUnlessMemory result (WordRefusal.Limit line kind) }
 {
     let answer = divide(alloc, text);
     answer
 }
 
-/// A text has one division, or one byte at which nothing begins, or one word that passes a limit.
+/// A text has a division, or a byte at which nothing begins, or a word that passes a limit.
+pub fn some_end()
+    ensures { (text : Text) → ((words : List Token) × IsDivision text words) ⊎ (((line : ℕ) × HasNoWord text line) ⊎ ((line : ℕ) × (kind : LimitKind) × PassesLimit text line kind)) }
+{}
+
+/// A text has one division at most, one byte at most at which nothing begins and one word at most that passes a limit, and no two of the three.
 pub fn one_division()
     ensures words { (text : Text) (words others : List Token) → IsDivision text words → IsDivision text others → words ≡ others }
     ensures lines { (text : Text) (line other : ℕ) → HasNoWord text line → HasNoWord text other → line ≡ other }

@@ -6,6 +6,3 @@ mod table;
 
 pub use bounds::{auto_bounds, is_automatic};
 pub use table::{LocalTable, note_first};
-
-#[cfg(test)]
-mod tests;

@@ -54,6 +54,3 @@ fn push_call(driver: &mut String, k: u32) -> Result<(), AllocError>
     write!(driver, "r = f{k}({k});\n")?;
     Ok(())
 }
-
-#[cfg(test)]
-mod tests;

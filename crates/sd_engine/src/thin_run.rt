@@ -2,7 +2,7 @@
 ghost use Rattle.std.specs.Prelude.{◌≡◌, IfOk, OnOk, OnErr};
 ghost use Rattle.sd_outside.specs.Counts.{HasCause};
 ghost use Rattle.sd_outside.specs.Sink.{IsCut, more};
-ghost use Rattle.sd_engine.specs.ThinRun.{event_lines, is_return as ends_function, last_item as item_at_end, lines_from, load_item as item_of_load, loaded as stage_of_load, run_lines, run_stage, stage_after, statement_item as item_of_statement, thin_task};
+ghost use Rattle.sd_engine.specs.ThinRun.{event_lines, is_return as ends_function, last_item as item_at_end, lines_from, load_item as item_of_load, loaded as stage_of_load, run_lines, run_stage, stage_after, statement_item as item_of_statement, statement_line as line_of_statement, thin_task};
 ghost use Rattle.sd_engine.specs.declared.lines.Item.TheVariants as item;
 ghost use Rattle.sd_engine.specs.declared.lines.Order.TheVariants as order;
 
@@ -138,7 +138,7 @@ fn run_init<K: Sink>(sink: &mut K, statements: &[Statement]) -> Result<Stage, Wr
         if steps == MOST_STEPS {
             return Ok(Stage::Stopped);
         }
-        print_optional(sink, statement_item(*statement))?;
+        write_statement(sink, *statement)?;
         steps += 1;
         if is_return(*statement) {
             return Ok(Stage::Over(steps));
@@ -147,7 +147,7 @@ fn run_init<K: Sink>(sink: &mut K, statements: &[Statement]) -> Result<Stage, Wr
     if steps == MOST_STEPS {
         return Ok(Stage::Stopped);
     }
-    print_item(sink, answered(0))?;
+    write_statement(sink, Statement::Return(0))?;
     Ok(Stage::Over(steps + 1))
 }
 
@@ -159,6 +159,17 @@ fn is_return(statement: Statement) -> bool
         Statement::Return(_) => true,
         Statement::Print(_) | Statement::Empty => false,
     }
+}
+
+/// Writes the line of a statement.
+fn write_statement<K: Sink>(sink: &mut K, statement: Statement) -> Result<(), WriteFault>
+    ensures ok { OnOk result (K.written sink.new ≡ more (K.written sink.old) (line_of_statement statement)) }
+    ensures err { OnErr result (IsCut (K.written sink.new) (more (K.written sink.old) (line_of_statement statement))) }
+    ensures cause { HasCause (K.faults sink.old) (K.faults sink.new) result }
+{
+    let item = statement_item(statement);
+    let written = print_optional(sink, item);
+    written
 }
 
 /// What a statement prints; an empty one nothing.

@@ -14,6 +14,3 @@ pub mod tested;
 
 pub use arena::Arena;
 pub use tested::{GrantedRange, Tested};
-
-#[cfg(test)]
-mod tests;

@@ -16,9 +16,17 @@ pub mod Multiples
 pub mod RedundantChecks
 pub mod BranchFacts
 pub mod Waiting
+pub mod LightSums
+pub mod WordValues
+pub mod Listings
 mod Sample
 mod ExpressionExamples
 mod ConditionExamples
 mod StatementExamples
 mod StepExamples
 mod FlowExamples
+mod LimitExamples
+mod ReturnExamples
+mod ToldExamples
+mod KnownExamples
+mod RedundantExamples

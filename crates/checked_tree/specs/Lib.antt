@@ -18,4 +18,5 @@ pub mod Redundant
 pub mod Effects
 pub mod Known
 pub mod KnownLaws
+pub mod Light
 pub mod KernelTable

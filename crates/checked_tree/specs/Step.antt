@@ -1,5 +1,5 @@
 -- The step of an activity: one statement of its top frame, with all its checks. A failing step changes nothing.
-use Rattle.std.specs.Prelude.{ℕ, ◌-◌, nat_lt, Bool, true, false, List, [], ◌∷◌, ◌++◌, length, replicate, take, ℤ, pos, ◌+ℤ◌, Option, Some, None, Ok, Err, slice_get, slice_set, if◌then◌else◌}
+use Rattle.std.specs.Prelude.{ℕ, ◌-◌, nat_lt, Bool, true, false, List, [], ◌∷◌, ◌++◌, length, replicate, ℤ, pos, ◌+ℤ◌, Option, Some, None, Ok, Err, slice_get, slice_set, if◌then◌else◌}
 use Rattle.sd_base.specs.declared.actors.Fat.{Fat}
 use Rattle.sd_base.specs.declared.kinds.FailKind.TheVariants as fail
 use Rattle.checked_tree.specs.declared.stops.Stop.TheVariants.{Failed, Wild}
@@ -186,15 +186,15 @@ parameter_type (shape.Pointer elem bounds) = Pointer 0
 parameter_type (shape.Struct number) = Void
 parameter_type shape.Address = Pointer 0
 
--- arguments, each converted to the type of its parameter
-abbrev pub converted_arguments : List Shape → List ℤ → List ℤ
-converted_arguments [] values = []
-converted_arguments (s ∷ ss) [] = []
-converted_arguments (s ∷ ss) (v ∷ vs) = converted (parameter_type s) v ∷ converted_arguments ss vs
+-- arguments, each converted to the type of its parameter: parameters are the first slots. One that has no slot is left out
+abbrev pub converted_arguments : List ℤ → List Shape → List ℤ
+converted_arguments [] parameters = []
+converted_arguments (v ∷ vs) [] = []
+converted_arguments (v ∷ vs) (s ∷ ss) = converted (parameter_type s) v ∷ converted_arguments vs ss
 
 -- the first frame of a call from outside
 abbrev pub started_frame : ℕ → List ℤ → CheckedFn → Frame
-started_frame number values f = entered number (converted_arguments (take f.params f.slots) values) f
+started_frame number values f = entered number (converted_arguments values f.slots) f
 
 -- the activity that a call from outside starts
 abbrev pub started_by : ℕ → List ℤ → Option CheckedFn → Option Activity

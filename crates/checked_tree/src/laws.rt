@@ -1,5 +1,6 @@
 //! The laws of the definitions that a reader comes for, each the contract of a function that does nothing.
 ghost use Rattle.checked_tree.specs.KnownLaws.{ConstantHolds, EqualHolds, EntryIsKnown, FactHolds, KnownBehind, KnownMoves, MetHolds, PassedHolds, RedundantHolds};
+ghost use Rattle.checked_tree.specs.Light.{InRangeHasWords, LightFormsHaveValues, LightSumsHaveValues, PeekedIsWord};
 ghost use Rattle.checked_tree.specs.ToldLaws.{ToldIsDone, ToldIsEvaluated, ToldIsStepped};
 
 /// What is told of an expression is its value: the numbers of the tested checks stand beside it and change nothing.
@@ -31,4 +32,18 @@ pub fn what_is_known_moves_with_control()
 /// that took the result: whatever was done to memory meanwhile.
 pub fn what_is_known_survives_a_call()
     ensures { KnownBehind }
+{}
+
+/// A sum of little weight has a value wherever its atoms have values of 32 bits: it never comes near the limit of the machine's numbers.
+/// So a check of such sums, and the bounds of a pointer, are never wild for their size.
+pub fn light_sums_have_values()
+    ensures forms { LightFormsHaveValues }
+    ensures bounds { LightSumsHaveValues }
+{}
+
+/// Locals in range have values of 32 bits, and so has every expression over them that has a value, where its blocks are at such addresses:
+/// so the atoms of checks and bounds have, as light sums ask.
+pub fn values_have_32_bits()
+    ensures expressions { PeekedIsWord }
+    ensures slots { InRangeHasWords }
 {}

@@ -191,6 +191,3 @@ impl Lin {
         Ok(())
     }
 }
-
-#[cfg(test)]
-mod tests;

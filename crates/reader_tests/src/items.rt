@@ -1,7 +1,4 @@
 //! Whole texts: each form of item and of statement with the line of each part, what is none, and a driver of some length.
-ghost use Rattle.std.specs.Prelude.{IfOk};
-ghost use Rattle.c_tree.specs.ShortUnit.{IsShortUnit};
-
 use crate::driver::SERIAL;
 use crate::printed::write_unit;
 use crate::texts::{repeated, words_of};
@@ -12,9 +9,7 @@ use std::fmt::Write;
 use std::test::Fail;
 
 /// The unit of a text. One that has no words is refused as one for which memory is wanting.
-pub fn unit_of(alloc: Global, text: &str) -> Result<Unit, UnitRefusal>
-    ensures { IfOk result (λ unit. IsShortUnit unit) }
-{
+fn unit_of(alloc: Global, text: &str) -> Result<Unit, UnitRefusal> {
     let Ok(words) = words_of(alloc, text) else {
         return Err(UnitRefusal::Memory);
     };

@@ -1,4 +1,4 @@
-//! Tests of the readers of driver texts, by public calls: words, expressions, items, slots; and of the generator's texts.
+//! Tests of the readers of driver texts, by public calls: words, expressions, items; and of the generator's texts.
 //!
 //! What contracts say of every text is not said again of one. Here are texts whose words and trees were worked by hand, and calls that succeed.
 #![tactic(auto)]
@@ -13,8 +13,6 @@ mod generated;
 mod items;
 #[cfg(test)]
 mod printed;
-#[cfg(test)]
-mod slots;
 #[cfg(test)]
 mod texts;
 #[cfg(test)]

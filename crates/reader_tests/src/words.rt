@@ -181,42 +181,59 @@ fn what_is_no_word_is_refused_on_its_line(rt: HostRuntime) -> Result<(), Fail> {
     Ok(())
 }
 
+/// Texts as a piece, how often it stands there and what stands behind it, and how many words such a text has or its refusal. The last are of a mebibyte.
+const LIMITS: &str = "\
+a;|100000||200000
+a;|100000|;|Limit(1, Words)
+a |999|;a|1001
+a |1000|;|Limit(1, Run)
+a |1000|@|NotAWord(1)
+(|64|)[|66
+(|65|@|Limit(1, Nesting)
+})|70|{|141
+*&|8|a - - --- -|22
+*&|8|-|Limit(1, Unary)
+- |16|-- - a|19
+a|63||1
+a|64||Limit(1, Name)
++ a |500|b|Limit(1, Run)
+ |1048576||0
+ |1048577||0
+/|1048576||0
+a b |262144||Limit(1, Run)
+\"|1048576||Limit(1, Run)
+\"\\|524288||NotAWord(1)
+*|1048576||Limit(1, Unary)
+9|1048576||NotAWord(1)
+a|1048576||Limit(1, Name)
+/* |349525||NotAWord(1)
+#1|524288||0";
+
+/// The text of a row of `LIMITS`, and what is wanted of it.
+fn limit_row(alloc: Global, row: &str) -> Result<(String, &str), AllocError> {
+    let (piece, more) = row.split_once('|').unwrap_or((row, ""));
+    let (times, more) = more.split_once('|').unwrap_or((more, ""));
+    let (tail, want) = more.split_once('|').unwrap_or((more, ""));
+    let times = times.parse::<usize>().unwrap_or(0);
+    let text = repeated(alloc, piece, times, tail, "")?;
+    Ok((text, want))
+}
+
 #[test]
 fn limits_are_passed_one_past_their_values(rt: HostRuntime) -> Result<(), Fail> {
-    for (piece, times, tail, want) in [
-        ("a;", 100_000, "", "200000"),
-        ("a;", 100_000, "\n;", "Limit(2, Words)"),
-        ("a\n", 999, ";a", "1001"),
-        ("a\n", 1_000, ";", "Limit(1001, Run)"),
-        ("a ", 1_000, "@", "NotAWord(1)"),
-        ("(", 64, ")[", "66"),
-        ("(", 65, "@", "Limit(1, Nesting)"),
-        ("})", 70, "{", "141"),
-        ("*&", 8, "a - - --- -", "22"),
-        ("*&", 8, "-", "Limit(1, Unary)"),
-        ("- ", 16, "-- - a", "19"),
-        ("a", 63, "", "1"),
-        ("a", 64, "", "Limit(1, Name)"),
-        ("+ a ", 500, "b", "Limit(1, Run)"),
-        // texts of a mebibyte
-        (" ", 1_048_576, "", "0"),
-        (" ", 1_048_577, "", "0"),
-        ("/", 1_048_576, "", "0"),
-        ("a b ", 262_144, "", "Limit(1, Run)"),
-        ("\"", 1_048_576, "", "Limit(1, Run)"),
-        ("\"\\", 524_288, "", "NotAWord(1)"),
-        ("*", 1_048_576, "", "Limit(1, Unary)"),
-        ("9", 1_048_576, "", "NotAWord(1)"),
-        ("a", 1_048_576, "", "Limit(1, Name)"),
-        ("/* ", 349_525, "", "NotAWord(1)"),
-        ("#1", 524_288, "", "0"),
-    ] {
-        let text = repeated(rt.alloc(), piece, times, tail, "")?;
-        assert_eq!(rt;
-            count(rt.alloc(), text.as_str())?.as_str(),
-            want,
-            "{piece} {times} {tail}"
-        );
+    for row in LIMITS.lines() {
+        let (text, want) = limit_row(rt.alloc(), row)?;
+        assert_eq!(rt; count(rt.alloc(), text.as_str())?.as_str(), want, "{row}");
     }
+    Ok(())
+}
+
+#[test]
+fn a_limit_is_told_on_the_line_of_its_word(rt: HostRuntime) -> Result<(), Fail> {
+    let text = repeated(rt.alloc(), "a\n", 1_000, ";", "")?;
+    assert_eq!(rt;
+        count(rt.alloc(), text.as_str())?.as_str(),
+        "Limit(1001, Run)"
+    );
     Ok(())
 }

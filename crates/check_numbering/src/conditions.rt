@@ -12,7 +12,12 @@ use std::alloc::Global;
 
 /// The left sum is at most the right one.
 #[tactic(auto, unfolding(deputy_rules::specs::Numbering::at_most))]
-fn at_most(alloc: Global, atoms: &mut Atoms, left: &Sum, right: &Sum) -> Result<Cond, DerivingRefusal>
+fn at_most(
+    alloc: Global,
+    atoms: &mut Atoms,
+    left: &Sum,
+    right: &Sum,
+) -> Result<Cond, DerivingRefusal>
     ensures { Leaves (spec.at_most left.now right.now atoms.old) result atoms.new }
 {
     let left = difference(alloc, atoms, left, right)?;
@@ -57,7 +62,12 @@ fn aligned(
 
 /// The byte at the address is not 0, or the new byte is 0 where there is one.
 #[tactic(auto, unfolding(deputy_rules::specs::Numbering::term))]
-fn term(alloc: Global, atoms: &mut Atoms, at: &Sum, new: Option<&Part>) -> Result<Cond, DerivingRefusal>
+fn term(
+    alloc: Global,
+    atoms: &mut Atoms,
+    at: &Sum,
+    new: Option<&Part>,
+) -> Result<Cond, DerivingRefusal>
     ensures { Leaves (spec.term at.now (option_copied new.entry) atoms.old) result atoms.new }
 {
     let at = whole(alloc, atoms, at)?;

@@ -106,7 +106,12 @@ fn product(times: i64, value: i64) -> i128
 
 /// One part more, of the left side or of the right one.
 #[tactic(auto, unfolding(deputy_rules::specs::Numbering::with_part))]
-fn with_part(atoms: &mut Atoms, right: bool, form: Forming, part: &Part) -> Result<Forming, DerivingRefusal>
+fn with_part(
+    atoms: &mut Atoms,
+    right: bool,
+    form: Forming,
+    part: &Part,
+) -> Result<Forming, DerivingRefusal>
     ensures { Leaves (spec.with_part right part.now form atoms.old) result atoms.new }
 {
     match part {

@@ -167,10 +167,10 @@ module _ (st : State) (ctx : Context) (c : CheckedExpr) (a s : ℕ) (t : StructS
       let at : ℕ = a + m.offset in
       let seen = member_peeks st is.bytes c a m.offset (loaded_as x) is.address named.below (load_is st.memory (loaded_as x) at named.below named.inside) in
       let value : sibling k ≡ place_value st.memory.bytes at x =
-          ap (λ (o : Option Member). unwrap_or (option_map (λ (m : Member). place_value st.memory.bytes (a + m.offset) m.shape) o) (pos 0)) named.found in
+      ap (λ (o : Option Member). unwrap_or (option_map (λ (m : Member). place_value st.memory.bytes (a + m.offset) m.shape) o) (pos 0)) named.found in
       let found : member ctx.table s k ≡ Some m = ap (λ (o : Option StructShape). slice_get (unwrap_or (option_map (λ (x : StructShape). x.members) o) []) k) is.struct_is ∙ named.found in
       let has = has_bare st (form.Load (loaded_as x) (form.Field (bare c) m.offset [])) (place_value st.memory.bytes at x)
-          (seen ∙ ap (λ (z : ℤ). Ok z) (same_number st is.bytes x at named.number)) (number_value st is.bytes x at named.number) in
+      (seen ∙ ap (λ (z : ℤ). Ok z) (same_number st is.bytes x at named.number)) (number_value st is.bytes x at named.number) in
       subst (λ (o : Option Member). HasValue st (member_sum c o) (sibling k) × AreOnce (member_sum c o).parts) (sym found)
       (subst (λ (z : ℤ). HasValue st (member_sum c (Some m)) z) (sym value) has, (refl, tt))
 

@@ -147,10 +147,13 @@ module _ (f : Function) where
   pub slots_listed : AreSlots f
   unfolding hidden_slot
   slots_listed = record {
-    parameters = λ k p h. (record {
+    parameters = λ k p h. (
+      record {
         listed = in_front (map parameter ps) behind k (parameter p) (at_mapped parameter ps k p h);
         named = in_front (map (λ (p : Param). p.name) ps) (map (λ (l : Local). l.name) ls) k p.name (at_mapped (λ (p : Param). p.name) ps k p h);
-      }, no_parameter ps k p (hidden_from (np + length ls) ls) h);
+      },
+      no_parameter ps k p (hidden_from (np + length ls) ls) h,
+    );
     locals = λ j l h. record {
       listed = slot_behind j (local l) (in_front (map local ls) (hidden_slots ls) j (local l) (at_mapped local ls j l h));
       named = name_behind j ∙ at_mapped (λ (l : Local). l.name) ls j l h;

@@ -15,8 +15,8 @@ mod slot_laws;
 
 pub use asked::{Asked, AskedCond};
 pub use derived::{
-    ArrayPlace, Derived, FoundArm, Place, Pointed, DerivingRefusal, Source, UnionPlace, Value, Whole,
-    Written,
+    ArrayPlace, Derived, DerivingRefusal, FoundArm, Place, Pointed, Source, UnionPlace, Value,
+    Whole, Written,
 };
 pub use families::Family;
 pub use handed::{Handed, Passed};

@@ -9,4 +9,3 @@ pub mod LayoutExamples
 pub mod Inversions
 pub mod TypeExtents
 pub mod MembersLie
-

@@ -177,7 +177,7 @@ own_plain extents (element.Count n j) y x h k = absurd cc
 
 own_by_stars : (elements : List Element) (extents : List Extent) (base : Option Element) (stars : List Star) (y x : Shape)
     → and_then (and_then base (λ key. stars_key elements key (front_stars stars)))
-        (λ key. shape_behind elements extents unannotated.Safe no_siblings 0 key (last_star stars)) ≡ Some y → if_number y ≡ Some x
+    (λ key. shape_behind elements extents unannotated.Safe no_siblings 0 key (last_star stars)) ≡ Some y → if_number y ≡ Some x
     → stars_extent (unwrap_or (option_map own_extent base) no_extent) stars ≡ shape_extent extents x
 own_by_stars elements extents None stars y x h k = absurd cc
 own_by_stars elements extents (Some key) [] y x h k = own_plain extents key y x h k

@@ -46,12 +46,12 @@ pub use extents::{key_extent, round_up_to, stars_extent, type_extent};
 pub use fields::element_count;
 pub use found::Found;
 pub use global::GlobalShape;
-pub use laying::{Arms, Laid, Laying};
-pub use load_image::Image;
 pub use keys::{
     are_constant, base_key, constant_sum, front_stars, is_char, last_star, pointed_key, stars_key,
     type_key,
 };
+pub use laying::{Arms, Laid, Laying};
+pub use load_image::Image;
 pub use member_list::MemberList;
 pub use name_list::NameList;
 pub use refusal::TypeRefusal;

@@ -5,9 +5,7 @@ ghost use Rattle.deputy_types.specs.Types.{type_key};
 ghost use Rattle.deputy_types.specs.UnitLayout as spec;
 
 use crate::unit_items::Declared;
-use crate::{
-    Element, GlobalShape, Types, const_value, element_count, key_extent, type_key,
-};
+use crate::{Element, GlobalShape, Types, const_value, element_count, key_extent, type_key};
 use c_tree::{Const, GlobalItem, Number};
 use checked_tree::kernel_named;
 use sd_base::Name;

@@ -61,7 +61,7 @@ global_keeps d next name g e = ap (λ (x : Declared). x.extents) (sym e)
 extent_front : (xs ys : List Extent) (s : ℕ) → s < length xs → struct_extent xs s ≡ struct_extent (xs ++ ys) s
 extent_front xs ys s l = unwrap_or-slice_get xs s no_extent ∙ (sym (get_or_append_left xs ys no_extent s l) ∙ sym (unwrap_or-slice_get (xs ++ ys) s no_extent))
 
-agree : (before now ys : List Extent) → now ≡ before ++ ys → AgreeBelow (length before) before now
+pub agree : (before now ys : List Extent) → now ≡ before ++ ys → AgreeBelow (length before) before now
 agree before now ys e = record { same = λ s l. extent_front before ys s l ∙ ap (λ (x : List Extent). struct_extent x s) (sym e) }
 
 -- one more struct, behind others

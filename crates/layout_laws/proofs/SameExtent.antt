@@ -1,5 +1,5 @@
 -- A struct has the same extent whatever structs are declared behind it: it is laid out again when the extents of all are known.
-use Rattle.std.proofs.Common.{◌≡◌, ℕ, ◌+◌, ◌*◌, ◌<◌, max, Bool, true, false, List, [], ◌∷◌, ◌++◌, length, ℤ, Option, Some, None, Ok, option_map, unwrap_or, if◌then◌else◌, refl, sym, ◌∙◌, ap, subst, arith}
+use Rattle.std.proofs.Common.{◌≡◌, ℕ, ◌+◌, ◌*◌, ◌<◌, max, Bool, true, false, List, [], ◌∷◌, ◌++◌, length, Option, Some, None, Ok, option_map, unwrap_or, if◌then◌else◌, refl, sym, ◌∙◌, ap, subst, arith}
 use Rattle.std.proofs.lemmas.Bool.{ltb-true}
 use Rattle.c_tree.specs.declared.items.Arm.{Arm}
 use Rattle.c_tree.specs.declared.items.Declaration.{Declaration}
@@ -10,7 +10,6 @@ use Rattle.c_tree.specs.declared.types.Star.{Star}
 use Rattle.c_tree.specs.declared.types.TypeName.{TypeName}
 use Rattle.checked_tree.specs.declared.shapes.Shape.{Shape}
 use Rattle.checked_tree.specs.declared.shapes.Shape.TheVariants as shape
-use Rattle.checked_tree.specs.declared.shapes.UnionShape.{UnionShape}
 use Rattle.deputy_types.specs.declared.element.Element.{Element}
 use Rattle.deputy_types.specs.declared.element.Element.TheVariants as element
 use Rattle.deputy_types.specs.declared.extent.Extent.{Extent}
@@ -25,8 +24,7 @@ use Rattle.deputy_types.specs.declared.types.Types.{Types}
 use Rattle.deputy_types.specs.Declarations.{plain_shape, shape_behind, typed_shape}
 use Rattle.deputy_types.specs.Extents.{no_extent, struct_extent, key_extent, stars_extent, type_extent, round_up_to}
 use Rattle.deputy_types.specs.Options.{and_then}
-use Rattle.deputy_types.specs.Siblings.{no_siblings}
-use Rattle.deputy_types.specs.StructLayout.{Surroundings, is_first, is_new_field, field_shape, field_declared, is_complete, if_complete, siblings_of, counted, element_count, within_limits, or_no_decl, placed, with_plain, union_extent, with_arms_in_turn, is_new_union, with_union_of, with_union_arms, with_union_at, with_union, with_any_field, empty_struct, with_fields_in_turn, laid_out, head_of_struct, struct_siblings, laid_with, struct_laid}
+use Rattle.deputy_types.specs.StructLayout.{Surroundings, is_new_field, field_shape, field_declared, is_complete, if_complete, siblings_of, counted, element_count, within_limits, or_no_decl, placed, with_plain, union_extent, with_arms_in_turn, is_new_union, with_union_of, with_union_arms, with_union_at, with_union, with_any_field, empty_struct, with_fields_in_turn, laid_out, head_of_struct, struct_siblings, laid_with, struct_laid}
 use Rattle.deputy_types.specs.StructLaws.{AgreeBelow}
 use Rattle.deputy_types.proofs.Inversions.{some_then, some_map, if_some, ok_then, ok_declared, if_ok, unless_ok, within_is}
 use Rattle.deputy_types.specs.Types.{base_key, stars_key, front_stars, last_star, pointed_key}
@@ -65,11 +63,11 @@ if_true true x a h = refl
 if_true false x a h = absurd cc
 
 -- what a field that stands has: its count, and an extent that later structs do not change
-record Declares (at : Surroundings) (now : List Extent) (d : Declaration) (x : Shape × ℕ) : Type 0 where
-  extent : type_extent at.types at.extents d.type_name ≡ type_extent at.types now d.type_name
-  count : element_count d.size ≡ Some x.1
+pub record Declares (at : Surroundings) (now : List Extent) (d : Declaration) (x : Shape × ℕ) : Type 0 where
+  pub extent : type_extent at.types at.extents d.type_name ≡ type_extent at.types now d.type_name
+  pub count : element_count d.size ≡ Some x.1
 
-declares : (at : Surroundings) (now : List Extent) (laying : Laying) (d : Declaration) (x : Shape × ℕ)
+pub declares : (at : Surroundings) (now : List Extent) (laying : Laying) (d : Declaration) (x : Shape × ℕ)
     → AgreeBelow at.number at.extents now → field_declared at laying d ≡ Some x → Declares at now d x
 unfolding field_declared field_shape
 declares at now laying d x agree h =
@@ -108,7 +106,7 @@ is_placed laying line x count extent out h =
     let same : next ≡ out = cc in subst (λ (o : Laying). IsPlaced laying count extent o) same is
 
 -- the same struct, when the extents of later structs are known
-abbrev later : Surroundings → List Extent → Surroundings
+abbrev pub later : Surroundings → List Extent → Surroundings
 later at now = record { types = at.types; extents = now; number = at.number; siblings = at.siblings }
 
 same_place : (x y : Laying) (c d : ℕ) (e f : Extent) (o p : Laying) → Same x y → c ≡ d → e ≡ f → IsPlaced x c e o → IsPlaced y d f p → Same o p

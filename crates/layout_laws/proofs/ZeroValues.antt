@@ -1,16 +1,12 @@
 -- Zero bytes are valid at each type of a table.
-use Rattle.std.proofs.Common.{◌≡◌, ℕ, zero, suc, ◌+◌, ◌-◌, ◌*◌, ◌≤◌, ◌<◌, List, [], ◌∷◌, take, drop, get_or, pos, Option, Some, option_map, unwrap_or, slice_get, slice_index_or, All, refl, sym, ◌∙◌, ap, subst, arith}
-use Rattle.std.proofs.lemmas.List.{get_or-drop}
-use Rattle.std.proofs.lemmas.Option.{slice_get_within, get_or_from_slice_get}
-use Rattle.byte_memory.specs.Bytes.{little_endian, bytes_at}
-use Rattle.checked_tree.specs.declared.shapes.Member.{Member}
+use Rattle.std.proofs.Common.{◌≡◌, ℕ, ◌+◌, ◌*◌, List, pos, refl, ◌∙◌, ap}
 use Rattle.checked_tree.specs.declared.shapes.Scalar.{Scalar}
 use Rattle.checked_tree.specs.declared.shapes.Scalar.TheVariants as scalar
 use Rattle.checked_tree.specs.declared.shapes.Shape.{Shape}
 use Rattle.checked_tree.specs.declared.shapes.Shape.TheVariants as shape
 use Rattle.checked_tree.specs.declared.shapes.StructShape.{StructShape}
 use Rattle.checked_tree.specs.Numbers.{converted, scalar_size}
-use Rattle.deputy_types.specs.Fitting.{shape_size, Part, whole, member, is_any, place_value, AreZero, AreNested}
+use Rattle.deputy_types.specs.Fitting.{shape_size, member, place_value, AreZero, AreNested}
 use Rattle.deputy_types.specs.Table.{Table}
 use Rattle.layout_laws.proofs.ZeroFits.{zero_bytes, lies_in, zero_part, zero_fits}
 use Rattle.layout_laws.specs.ZeroBytes.{AreNull, IsValidZero, ZeroIsValid}

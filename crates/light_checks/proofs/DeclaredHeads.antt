@@ -1,7 +1,6 @@
 -- What calls see of a function is within the bounds: where each of its parameters stands, what annotations name as a number of elements is an integer.
-use Rattle.std.proofs.Common.{◌≡◌, ℕ, zero, suc, ◌+◌, ◌≤◌, Bool, true, false, cond, not, nat_lt, is_some, is_none, List, [], ◌∷◌, ◌++◌, map, length, Option, Some, None, position, bytes_eq, slice_get, if◌then◌else◌, All, refl, sym, ap, ◌∙◌, subst, append-nil, arith}
+use Rattle.std.proofs.Common.{◌≡◌, ℕ, zero, suc, ◌+◌, ◌≤◌, true, cond, not, nat_lt, is_none, List, [], ◌∷◌, map, length, Option, Some, None, position, bytes_eq, slice_get, if◌then◌else◌, All, refl, sym, ap, ◌∙◌, subst, append-nil, arith}
 use Rattle.std.specs.List.{position_or_len}
-use Rattle.std.specs.Option.{option_flatten}
 use Rattle.std.proofs.lemmas.Bool.{and_parts}
 use Rattle.std.proofs.lemmas.List.Elements.{All-nil, All-cons, All-map, All-weaker}
 use Rattle.c_tree.specs.declared.items.Head.{Head}
@@ -19,7 +18,7 @@ use Rattle.deputy_rules.specs.Agreement.{parameter_place, same_place}
 use Rattle.deputy_rules.specs.Heads.{parameter_siblings, named_shape, parameter_shape, parameter_shapes, is_declared, head_parameter_stands, wrong_head_parameter, wrong_in_head, no_shapes, seen_shapes}
 use Rattle.light_checks.specs.Within.{is_integer, shape_at, IsShape, AreShapes}
 use Rattle.light_checks.specs.Words.{IsReadable}
-use Rattle.light_checks.proofs.DeclaredSlots.{Decl, first, parameter_decl, with_parameters_is, Aligned, AreFirst, aligned_all, if_none, same_is, map_length, mapped_named, AreNamed, integer_at_role, named_is}
+use Rattle.light_checks.proofs.DeclaredSlots.{Decl, first, parameter_decl, with_parameters_is, Aligned, AreFirst, aligned_all, if_none, same_is, map_length, mapped_named, integer_at_role, named_is}
 
 abbrev HasReadableType : Param → Type 0
 HasReadableType p = IsReadable (type_words p.type_name)

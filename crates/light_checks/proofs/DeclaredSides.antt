@@ -169,7 +169,7 @@ module _ (size : ℕ) (few : size ≤ 65536) (siblings : Siblings) where
   terms_few [] = omega arith
   terms_few (t ∷ ts) = omega (arith, length-append (signed_words t) (terms_words ts), signed_some t.negative t.term, terms_few ts)
 
-  sum_few : (ts : List SignedTerm) → length ts ≤ length (sum_words ts)
+  pub sum_few : (ts : List SignedTerm) → length ts ≤ length (sum_words ts)
   sum_few [] = omega arith
   sum_few (t ∷ ts) = omega (arith, length-append (first_words t) (terms_words ts), first_some t.negative t.term, terms_few ts)
 
@@ -250,7 +250,7 @@ module _ (size : ℕ) (few : size ≤ 65536) (siblings : Siblings) where
   star_roled plain place elem key (Some a) b r h = annotated_roled place elem key a b r h
 
 -- ---- shapes
-star_readable : (stars : List Star) (i : ℕ) (s : Star) → IsReadable (stars_words stars) → slice_get stars i ≡ Some s → IsReadable (noted_words s.annotation)
+pub star_readable : (stars : List Star) (i : ℕ) (s : Star) → IsReadable (stars_words stars) → slice_get stars i ≡ Some s → IsReadable (noted_words s.annotation)
 star_readable [] i s r h = absurd cc
 star_readable (t ∷ stars) zero s r h =
     subst (λ (x : Star). IsReadable (noted_words x.annotation)) (some_same t s h)

@@ -2,7 +2,7 @@
 use Rattle.std.proofs.Common.{◌≡◌, ◌≢◌, ◌⊎◌, inl, inr, ℕ, zero, suc, ◌+◌, ◌*◌, ◌≤◌, ◌<◌, max, Bool, true, false, not, ◌&&◌, nat_lt, nat_le, is_some, List, [], ◌∷◌, ◌++◌, map, length, Option, Some, None, option_map, unwrap_or, Ok, Err, ℤ, position, bytes_eq, slice_get, if◌then◌else◌, All, refl, sym, ap, ◌∙◌, subst, append-nil, append_assoc, arith}
 use Rattle.std.specs.List.{list_any}
 use Rattle.std.specs.Option.{option_flatten}
-use Rattle.std.proofs.lemmas.Bool.{and_parts, eqb-true, ltb-false, leb-false, leb-true, false≢true}
+use Rattle.std.proofs.lemmas.Bool.{and_parts, ltb-false, leb-false, leb-true, false≢true}
 use Rattle.std.proofs.lemmas.List.{length-append}
 use Rattle.std.proofs.lemmas.List.Elements.{All-nil, All-push, All-map, All-weaker}
 use Rattle.c_tree.specs.declared.items.Arm.{Arm}
@@ -12,18 +12,14 @@ use Rattle.c_tree.specs.declared.items.Field.TheVariants as field
 use Rattle.c_tree.specs.declared.items.StructItem.{StructItem}
 use Rattle.c_tree.specs.declared.limits.LimitKind.TheVariants as limit
 use Rattle.c_tree.specs.declared.types.Number.{Number}
-use Rattle.c_tree.specs.declared.types.Star.{Star}
-use Rattle.c_tree.specs.declared.types.TypeName.{TypeName}
 use Rattle.c_tree.specs.Spelling.{type_words}
 use Rattle.checked_tree.specs.declared.shapes.Member.{Member}
-use Rattle.checked_tree.specs.declared.shapes.Scalar.TheVariants as scalar
 use Rattle.checked_tree.specs.declared.shapes.Shape.{Shape}
 use Rattle.checked_tree.specs.declared.shapes.Shape.TheVariants as shape
 use Rattle.checked_tree.specs.declared.shapes.UnionShape.{UnionShape}
 use Rattle.checked_tree.specs.declared.shapes.Bounds.TheVariants as bounds
 use Rattle.checked_tree.specs.declared.shapes.Edge.{Edge}
 use Rattle.deputy_types.specs.declared.element.Element.{Element}
-use Rattle.deputy_types.specs.declared.element.Element.TheVariants as element
 use Rattle.deputy_types.specs.declared.extent.Extent.{Extent}
 use Rattle.deputy_types.specs.declared.refusal.TypeRefusal.{TypeRefusal}
 use Rattle.deputy_types.specs.declared.refusal.TypeRefusal.TheVariants as refusal
@@ -35,11 +31,10 @@ use Rattle.deputy_types.specs.declared.siblings.Siblings.{Siblings}
 use Rattle.deputy_types.specs.declared.types.Types.{Types}
 use Rattle.deputy_rules.specs.Changes.{shape_of}
 use Rattle.deputy_types.specs.Declarations.{typed_shape, declared_role}
-use Rattle.deputy_types.specs.Extents.{IsExtent, AreExtents, natural, key_extent, stars_extent, type_extent, round_up_to, greater}
+use Rattle.deputy_types.specs.Extents.{IsExtent, AreExtents, key_extent, type_extent, round_up_to}
 use Rattle.deputy_types.specs.Options.{and_then}
 use Rattle.deputy_types.specs.Siblings.{is_member, member_number, role_of, is_new_member, with_member, with_sibling, no_siblings}
-use Rattle.deputy_types.specs.StructLayout.{Surroundings, or_no_decl, tags_of, with_field_sibling, with_arm_siblings, next_part, field_siblings, struct_siblings, is_number, is_first, is_new_field, field_shape, field_declared, is_complete, if_complete, siblings_of, counted, element_count, within_limits, placed, with_plain, union_extent, const_value, arm_tag, if_number, arm_shape, with_arm_of, with_tagged_arm, with_arm, with_next_arm, with_arms_in_turn, is_new_union, with_union_of, with_union_arms, with_union_at, with_union, empty_struct, with_fields_in_turn, laid_out, head_of_struct, laid_with, struct_laid}
-use Rattle.deputy_types.specs.Types.{base_key}
+use Rattle.deputy_types.specs.StructLayout.{Surroundings, or_no_decl, tags_of, with_field_sibling, with_arm_siblings, next_part, field_siblings, struct_siblings, is_first, is_new_field, field_shape, field_declared, is_complete, if_complete, siblings_of, counted, element_count, within_limits, placed, with_plain, union_extent, const_value, arm_tag, if_number, arm_shape, with_arm_of, with_tagged_arm, with_arm, with_next_arm, with_arms_in_turn, is_new_union, with_union_of, with_union_arms, with_union_at, with_union, empty_struct, with_fields_in_turn, laid_out, head_of_struct, laid_with, struct_laid}
 use Rattle.deputy_types.proofs.TypeExtents.{key_is_extent, type_is_extent, union_is_extent}
 use Rattle.deputy_types.proofs.Inversions.{some_then, some_map, if_some, ok_then, ok_declared, if_ok, unless_ok, within_is}
 use Rattle.light_checks.specs.Within.{is_integer, shape_at, IsShape, AreShapes}
@@ -201,7 +196,7 @@ limits_hold line fields end out h =
     let b = two_limits (nat_le 64 fields) (nat_lt 65536 end) (refusal.Limit line limit.Fields) (refusal.Limit line limit.Size) end out h in
     (leb-false 64 fields b.0, ltb-false 65536 end b.1)
 
-if_true : {A : Type 0} (t : Bool) (x : Option A) (a : A) → (if t then x else None) ≡ Some a → t ≡ true
+pub if_true : {A : Type 0} (t : Bool) (x : Option A) (a : A) → (if t then x else None) ≡ Some a → t ≡ true
 if_true true x a h = refl
 if_true false x a h = absurd cc
 

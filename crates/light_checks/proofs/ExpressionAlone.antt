@@ -1,14 +1,12 @@
 -- An expression that is checked by itself is refused only where no rule derives it.
-use Rattle.std.proofs.Common.{◌≡◌, ◌≢◌, ℕ, List, [], Option, Some, None, Err, sym, subst}
+use Rattle.std.proofs.Common.{◌≡◌, List, [], Option, None, Err, sym, subst}
 use Rattle.c_tree.specs.declared.expressions.Expr.{Expr}
 use Rattle.c_tree.specs.Short.{IsShortExpr}
-use Rattle.checked_tree.specs.declared.expressions.CheckedExpr.{CheckedExpr}
 use Rattle.checked_tree.specs.declared.shapes.Shape.{Shape}
-use Rattle.deputy_rules.specs.declared.asked.Asked.{Asked}
 use Rattle.deputy_rules.specs.Checking.{Fault, NoRule}
 use Rattle.deputy_rules.specs.Context.{Context}
 use Rattle.deputy_rules.specs.Expressions.{expression}
-use Rattle.deputy_rules.specs.Numbering.{Numbered, numbered}
+use Rattle.deputy_rules.specs.Numbering.{Numbered}
 use Rattle.deputy_rules.specs.Statements.{expression_alone, statement_context}
 use Rattle.light_checks.specs.Alone.{IsInFunction}
 use Rattle.light_checks.specs.Within.{AreShapes, IsContext}
@@ -30,7 +28,8 @@ module _ (ctx : Context) (is : IsInFunction ctx) where
   unfolding expression_alone
   alone_refused e b fault short h =
       let here = statement_context ctx ctx.line b in
-      let inside = at_line_within ctx ctx.line b within in
-      (line_fault ctx.line b (expression here e []) fault h,
+      let inside = at_line_within ctx ctx.line b within in (
+        line_fault ctx.line b (expression here e []) fault h,
         none_refused ctx.line b (expression here e []) fault
-        (λ x asked found. numbers_of asked (all_light (expression here e) Any x asked (expression_is here inside e short) found) b) h)
+            (λ x asked found. numbers_of asked (all_light (expression here e) Any x asked (expression_is here inside e short) found) b) h,
+      )

@@ -19,12 +19,16 @@ pub mod DeclaredSlots
 pub mod DeclaredHeads
 pub mod DeclaredStructs
 pub mod DeclaredUnits
+pub mod SecondShapes
+pub mod SecondLayouts
 pub mod FoundKeys
 pub mod ShortUnits
 pub mod Refusals
+pub mod SecondPasses
 pub mod Bodies
 pub mod SmallChecks
 pub mod Units
 pub mod ExpressionAlone
 pub mod PointerBounds
 mod Examples
+mod SeenExamples

@@ -125,7 +125,7 @@ items_readable [] all = tt
 items_readable (x ∷ xs) all =
     (item_readable x (All-head (λ x. IsShort (item_words x) (item_pieces x)) x xs all), items_readable xs (All-tail (λ x. IsShort (item_words x) (item_pieces x)) x xs all))
 
-unit_readable : (u : TextUnit) → IsShortUnit u → AreReadableItems u.items
+pub unit_readable : (u : TextUnit) → IsShortUnit u → AreReadableItems u.items
 unit_readable u short = items_readable u.items (short_each item_words item_pieces u.items short.within)
 
 -- ---- the table
@@ -215,8 +215,17 @@ head_few : (h : Head) → IsReadable (head_words h) → length h.params ≤ 1000
 head_few h r =
     let inner = written_void_words h.written_void ++ params_words h.params in
     let behind = a_name h.name ++ in_parentheses inner in
-    omega (arith, r.words, length-append (result_words h.result) (stars_words h.stars ++ behind), length-append (stars_words h.stars) behind, length-append (a_name h.name) (in_parentheses inner),
-    length-append (a_sign sign.ParenOpen) (inner ++ a_sign sign.ParenClose), length-append inner (a_sign sign.ParenClose), length-append (written_void_words h.written_void) (params_words h.params), params_few h.params)
+    omega (
+      arith,
+      r.words,
+      length-append (result_words h.result) (stars_words h.stars ++ behind),
+      length-append (stars_words h.stars) behind,
+      length-append (a_name h.name) (in_parentheses inner),
+      length-append (a_sign sign.ParenOpen) (inner ++ a_sign sign.ParenClose),
+      length-append inner (a_sign sign.ParenClose),
+      length-append (written_void_words h.written_void) (params_words h.params),
+      params_few h.params,
+    )
 
 function_readable : (f : Function) → IsShortFunction f → HasReadable f
 function_readable f s = record { params = head_params f.head (head_readable f s); locals = locals_readable f s }

@@ -1,6 +1,7 @@
 pub mod Alone
 pub mod Lightness
 pub mod Faults
+pub mod SecondPass
 pub mod ShortActions
 pub mod ShortUnits
 pub mod Standing

@@ -3,6 +3,7 @@
 
 mod expressions;
 mod laws;
+mod structs;
 mod sums;
 
 pub use expressions::an_expression_alone_is_refused_where_no_rule_derives_it;
@@ -15,3 +16,4 @@ pub use laws::{
 pub use sums::{
     a_pointers_bounds_reach_no_limit, a_small_form_reaches_no_limit, derived_checks_are_small,
 };
+pub use structs::structs_are_laid_out_again;

@@ -21,7 +21,7 @@ use crate::sums::side;
 use crate::values::value_of;
 use c_tree::Binary;
 use checked_tree::{Arithmetic, CheckedExpr, Comparison, Logic, PointerSum, Scalar};
-use deputy_rules::{Asked, AskedCond, Derived, Family, Pointed, DerivingRefusal, Value, Whole};
+use deputy_rules::{Asked, AskedCond, Derived, DerivingRefusal, Family, Pointed, Value, Whole};
 use deputy_types::Element;
 use sd_base::CheckKind;
 use sqlite_items::{Boxed, Items};
@@ -355,7 +355,12 @@ fn pointers_compared(
 
 /// Two pointers.
 #[tactic(auto, unfolding(deputy_rules::specs::Operators::on_pointers))]
-fn on_pointers(alloc: Global, family: Family, p: Pointed, q: Pointed) -> Result<Derived, DerivingRefusal>
+fn on_pointers(
+    alloc: Global,
+    family: Family,
+    p: Pointed,
+    q: Pointed,
+) -> Result<Derived, DerivingRefusal>
     ensures { Yields (spec.on_pointers family p q) result }
 {
     match family {
@@ -368,7 +373,11 @@ fn on_pointers(alloc: Global, family: Family, p: Pointed, q: Pointed) -> Result<
 
 /// A pointer and the null constant `(void *)0`.
 #[tactic(auto, unfolding(deputy_rules::specs::Operators::pointer_and_null))]
-fn pointer_and_null(alloc: Global, family: Family, pointer: Pointed) -> Result<Derived, DerivingRefusal>
+fn pointer_and_null(
+    alloc: Global,
+    family: Family,
+    pointer: Pointed,
+) -> Result<Derived, DerivingRefusal>
     ensures { Yields (spec.pointer_and_null family pointer) result }
 {
     match family {
@@ -379,7 +388,11 @@ fn pointer_and_null(alloc: Global, family: Family, pointer: Pointed) -> Result<D
 
 /// The null constant `(void *)0` and a pointer.
 #[tactic(auto, unfolding(deputy_rules::specs::Operators::null_and_pointer))]
-fn null_and_pointer(alloc: Global, family: Family, pointer: Pointed) -> Result<Derived, DerivingRefusal>
+fn null_and_pointer(
+    alloc: Global,
+    family: Family,
+    pointer: Pointed,
+) -> Result<Derived, DerivingRefusal>
     ensures { Yields (spec.null_and_pointer family pointer) result }
 {
     match family {

@@ -19,7 +19,11 @@ use std::alloc::Global;
 
 /// `sizeof(T)`.
 #[tactic(auto, unfolding(deputy_rules::specs::Expressions::size_of_type))]
-fn size_of_type(alloc: Global, ctx: &Context<'_>, name: &TypeName) -> Result<Derived, DerivingRefusal>
+fn size_of_type(
+    alloc: Global,
+    ctx: &Context<'_>,
+    name: &TypeName,
+) -> Result<Derived, DerivingRefusal>
     ensures { Yields (spec.size_of_type ctx.now name.now) result }
 {
     match ctx.types.size(name) {

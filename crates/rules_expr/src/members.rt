@@ -18,7 +18,9 @@ use crate::ids::one;
 use crate::names::{loaded_as, member_part};
 use crate::sums::beyond;
 use checked_tree::{Member, Shape, UnionShape};
-use deputy_rules::{ArrayPlace, Asked, AskedCond, Derived, FoundArm, Place, DerivingRefusal, Source, UnionPlace};
+use deputy_rules::{
+    ArrayPlace, Asked, AskedCond, Derived, DerivingRefusal, FoundArm, Place, Source, UnionPlace,
+};
 use deputy_types::Element;
 use sd_base::{CheckKind, Name};
 use sqlite_items::Items;
@@ -169,7 +171,12 @@ fn part_by(
 
 /// `l.f`, l a place.
 #[tactic(auto, unfolding(deputy_rules::specs::Places::part_of))]
-fn part_of(alloc: Global, ctx: &Context<'_>, place: Place, name: &Name) -> Result<Derived, DerivingRefusal>
+fn part_of(
+    alloc: Global,
+    ctx: &Context<'_>,
+    place: Place,
+    name: &Name,
+) -> Result<Derived, DerivingRefusal>
     ensures { Yields (spec.part_of ctx.now place name.now) result }
 {
     match struct_of(ctx, place.source) {

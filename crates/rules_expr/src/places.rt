@@ -15,7 +15,9 @@ use crate::forms::{block_form, element_form, through_form};
 use crate::ids::{Ids, joined, one, with_id};
 use crate::sums::{beyond, constant, side, times, with_part};
 use checked_tree::{ImageBlock, Scalar, Sum, copied_sum};
-use deputy_rules::{ArrayPlace, Asked, AskedCond, Derived, Place, Pointed, DerivingRefusal, Source, Whole};
+use deputy_rules::{
+    ArrayPlace, Asked, AskedCond, Derived, DerivingRefusal, Place, Pointed, Source, Whole,
+};
 use deputy_types::{Element, GlobalPlace};
 use sd_base::{CheckKind, Name};
 use sqlite_items::Items;
@@ -49,7 +51,11 @@ fn block_place(
 
 /// A global.
 #[tactic(auto, unfolding(deputy_rules::specs::Places::global_place))]
-fn global_place(alloc: Global, ctx: &Context<'_>, global: GlobalPlace) -> Result<Derived, DerivingRefusal>
+fn global_place(
+    alloc: Global,
+    ctx: &Context<'_>,
+    global: GlobalPlace,
+) -> Result<Derived, DerivingRefusal>
     ensures { Yields (spec.global_place ctx.now global) result }
 {
     match sqlite_items::at(ctx.types.image(), global.block as usize) {

@@ -17,7 +17,9 @@ use crate::places::{
 };
 use crate::sums::{beyond, constant};
 use checked_tree::{CheckedExpr, ImageBlock, Member, PointerSum, Scalar, Sum, copied_sum};
-use deputy_rules::{Asked, AskedCond, Derived, Place, Pointed, DerivingRefusal, Source, Value, Whole, Written};
+use deputy_rules::{
+    Asked, AskedCond, Derived, DerivingRefusal, Place, Pointed, Source, Value, Whole, Written,
+};
 use deputy_types::{Element, has_names};
 use sd_base::CheckKind;
 use sqlite_items::{Boxed, Items};
@@ -129,7 +131,11 @@ fn address_at(
 
 /// The address of a place.
 #[tactic(auto, unfolding(deputy_rules::specs::Pointers::address_of_place))]
-fn address_of_place(alloc: Global, ctx: &Context<'_>, place: Place) -> Result<Derived, DerivingRefusal>
+fn address_of_place(
+    alloc: Global,
+    ctx: &Context<'_>,
+    place: Place,
+) -> Result<Derived, DerivingRefusal>
     ensures { Yields (spec.address_of_place ctx.now place) result }
 {
     match addressed(ctx, place.source) {

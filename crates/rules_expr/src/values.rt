@@ -13,7 +13,9 @@ use crate::forms::{address_form, load_form, local_form};
 use crate::names::{high_sum, low_sum, of_slots, of_struct, slot_sum};
 use crate::sums::{atom, with_part};
 use checked_tree::{Bounds, CheckedExpr, Part, Scalar, Shape, Sum, copied_sum};
-use deputy_rules::{ArrayPlace, Derived, Naming, Place, Pointed, DerivingRefusal, Source, Value, Whole, Written};
+use deputy_rules::{
+    ArrayPlace, Derived, DerivingRefusal, Naming, Place, Pointed, Source, Value, Whole, Written,
+};
 use deputy_types::Element;
 use sqlite_items::Boxed;
 use std::alloc::{AllocError, Global};
@@ -85,7 +87,12 @@ fn bounded_pointer(
 
 /// A local pointer whose bounds lie in two hidden slots.
 #[tactic(auto, unfolding(deputy_rules::specs::Values::hidden_pointer))]
-fn hidden_pointer(alloc: Global, ctx: &Context<'_>, slot: u32, elem: u32) -> Result<Value, DerivingRefusal>
+fn hidden_pointer(
+    alloc: Global,
+    ctx: &Context<'_>,
+    slot: u32,
+    elem: u32,
+) -> Result<Value, DerivingRefusal>
     ensures { Yields (spec.hidden_pointer ctx.now slot elem) result }
 {
     let Some(hidden) = ctx.locals.hidden(slot) else {
@@ -134,7 +141,12 @@ fn local_pointer(
 }
 
 /// The value of a local of this shape.
-fn slot_value(alloc: Global, ctx: &Context<'_>, slot: u32, shape: &Shape) -> Result<Value, DerivingRefusal>
+fn slot_value(
+    alloc: Global,
+    ctx: &Context<'_>,
+    slot: u32,
+    shape: &Shape,
+) -> Result<Value, DerivingRefusal>
     ensures { Yields (spec.slot_value ctx.now slot shape.now) result }
 {
     match shape {
@@ -364,7 +376,11 @@ pub fn array_value(alloc: Global, ctx: &Context<'_>, array: ArrayPlace) -> Resul
 
 /// The value of what was derived: a place or a local is read, and a struct or a union has none.
 #[tactic(auto, unfolding(deputy_rules::specs::Values::value_of))]
-pub fn value_of(alloc: Global, ctx: &Context<'_>, derived: Derived) -> Result<Value, DerivingRefusal>
+pub fn value_of(
+    alloc: Global,
+    ctx: &Context<'_>,
+    derived: Derived,
+) -> Result<Value, DerivingRefusal>
     ensures { Yields (spec.value_of ctx.now derived) result }
 {
     match derived {
@@ -400,7 +416,11 @@ fn pointed(value: Value) -> Result<Pointed, DerivingRefusal>
 
 /// The value of what was derived, as an integer.
 #[tactic(auto, unfolding(deputy_rules::specs::Values::integer_of))]
-pub fn integer_of(alloc: Global, ctx: &Context<'_>, derived: Derived) -> Result<Whole, DerivingRefusal>
+pub fn integer_of(
+    alloc: Global,
+    ctx: &Context<'_>,
+    derived: Derived,
+) -> Result<Whole, DerivingRefusal>
     ensures { Yields (spec.integer_of ctx.now derived) result }
 {
     whole(value_of(alloc, ctx, derived)?)
@@ -408,7 +428,11 @@ pub fn integer_of(alloc: Global, ctx: &Context<'_>, derived: Derived) -> Result<
 
 /// The value of what was derived, as a pointer.
 #[tactic(auto, unfolding(deputy_rules::specs::Values::pointer_of))]
-pub fn pointer_of(alloc: Global, ctx: &Context<'_>, derived: Derived) -> Result<Pointed, DerivingRefusal>
+pub fn pointer_of(
+    alloc: Global,
+    ctx: &Context<'_>,
+    derived: Derived,
+) -> Result<Pointed, DerivingRefusal>
     ensures { Yields (spec.pointer_of ctx.now derived) result }
 {
     pointed(value_of(alloc, ctx, derived)?)

@@ -15,7 +15,7 @@ use crate::functions::Functions;
 use crate::kernel::{call, kalloc, kfree};
 use c_tree::{Action, Expr};
 use checked_tree::{CheckedExpr, CheckedStmt, Shape};
-use deputy_rules::{Asked, Derived, Passed, DerivingRefusal, Returned, UnionPlace, Value};
+use deputy_rules::{Asked, Derived, DerivingRefusal, Passed, Returned, UnionPlace, Value};
 use rules_expr::{Context, derive, field_form, of_slots, value_of};
 use sqlite_items::{Boxed, Items};
 use std::alloc::{AllocError, Global};
@@ -203,7 +203,11 @@ fn test_form(value: Value) -> Result<Boxed<CheckedExpr>, DerivingRefusal>
 }
 
 /// The same of what was derived.
-fn tested(alloc: Global, ctx: &Context<'_>, derived: Derived) -> Result<Boxed<CheckedExpr>, DerivingRefusal>
+fn tested(
+    alloc: Global,
+    ctx: &Context<'_>,
+    derived: Derived,
+) -> Result<Boxed<CheckedExpr>, DerivingRefusal>
     ensures { Yields (and_then (value_in ctx.now derived) spec.test_form) result }
 {
     let value = value_of(alloc, ctx, derived)?;

@@ -13,7 +13,7 @@ use crate::convert::{converted_side, handed};
 use crate::store::store;
 use c_tree::Expr;
 use checked_tree::{Bounds, CheckedStmt, PointerOperand, Scalar, Shape};
-use deputy_rules::{Asked, Derived, Handed, DerivingRefusal, Whole};
+use deputy_rules::{Asked, Derived, DerivingRefusal, Handed, Whole};
 use deputy_types::Element;
 use rules_expr::{Context, derive, integer_of, of_slots, sum_of};
 use sqlite_items::Items;

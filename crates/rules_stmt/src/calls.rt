@@ -9,7 +9,7 @@ use crate::functions::Functions;
 use crate::targets::call_target;
 use c_tree::Expr;
 use checked_tree::{CheckedStmt, Target};
-use deputy_rules::{Asked, Passed, DerivingRefusal, Signature};
+use deputy_rules::{Asked, DerivingRefusal, Passed, Signature};
 use rules_expr::Context;
 use sd_base::Name;
 use sqlite_items::Items;

@@ -8,9 +8,12 @@ ghost use Rattle.rules_stmt.specs.AreFewSlots.{AreFewSlots};
 
 use crate::coerce::{Fit, coerce};
 use checked_tree::{Bounds, CheckedExpr, Member, Part, Scalar, Shape, Sum, UnionShape, copied_sum};
-use deputy_rules::{Asked, AskedCond, Change, Names, Naming, Place, DerivingRefusal};
+use deputy_rules::{Asked, AskedCond, Change, DerivingRefusal, Names, Naming, Place};
 use deputy_types::{Element, TypeTable, bounds_name};
-use rules_expr::{Context, Ids, ask, atom_part, beyond, boxed_copy, container, high_sum, load_form, low_sum, name_sum, one, with_part};
+use rules_expr::{
+    Context, Ids, ask, atom_part, beyond, boxed_copy, container, high_sum, load_form, low_sum,
+    name_sum, one, with_part,
+};
 use sd_base::CheckKind;
 use sqlite_items::{Boxed, Items, at};
 use std::alloc::{AllocError, Global};

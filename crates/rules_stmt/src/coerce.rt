@@ -6,7 +6,7 @@ ghost use Rattle.deputy_rules.specs.declared.asked.AskedCond.TheVariants as cond
 ghost use Rattle.deputy_rules.specs.Values as values;
 
 use checked_tree::{Bounds, Part, Sum, copied_sum};
-use deputy_rules::{Asked, AskedCond, Handed, Naming, DerivingRefusal};
+use deputy_rules::{Asked, AskedCond, DerivingRefusal, Handed, Naming};
 use deputy_types::Element;
 use rules_expr::{Context, Ids, ask, high_sum, low_sum, one, with_part};
 use sd_base::CheckKind;

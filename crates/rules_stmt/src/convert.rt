@@ -7,9 +7,12 @@ ghost use Rattle.deputy_rules.specs.Pointers as pointers;
 ghost use Rattle.deputy_types.specs.Types as types;
 
 use checked_tree::{CheckedExpr, Part, Scalar, Unary, converted, has_all};
-use deputy_rules::{Derived, Handed, Pointed, DerivingRefusal, Value, Whole};
+use deputy_rules::{Derived, DerivingRefusal, Handed, Pointed, Value, Whole};
 use deputy_types::Element;
-use rules_expr::{Context, atom_part, boxed_copy, constant, constant_of, constant_part, is_written, null_form, same_element, unary_form, value_of};
+use rules_expr::{
+    Context, atom_part, boxed_copy, constant, constant_of, constant_part, is_written, null_form,
+    same_element, unary_form, value_of,
+};
 use std::alloc::{AllocError, Global};
 
 /// The cast of an expression in a check.

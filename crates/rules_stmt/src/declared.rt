@@ -12,7 +12,10 @@ use c_tree::{Base, Function, Head, Local, Param, ResultBase, Star, TypeName};
 use checked_tree::Shape;
 use dep_infer::is_automatic;
 use deputy_rules::{Returned, Signature};
-use deputy_types::{MemberName, Siblings, TypeTable, Unannotated, base_key, front_stars, last_star, shape_behind, stars_key};
+use deputy_types::{
+    MemberName, Siblings, TypeTable, Unannotated, base_key, front_stars, last_star, shape_behind,
+    stars_key,
+};
 use sd_base::{Memory, Name};
 use sqlite_items::Items;
 use std::alloc::Global;

@@ -1,5 +1,5 @@
 //! Which parameters of a head stand, and what calls see of them.
-ghost use Rattle.std.specs.Prelude.{◌≡◌, Some, IfOk};
+ghost use Rattle.std.specs.Prelude.{◌≡◌, Some, None, IfOk};
 ghost use Rattle.deputy_rules.specs.Agreement as agreement;
 ghost use Rattle.deputy_rules.specs.Heads as spec;
 
@@ -34,12 +34,7 @@ fn is_place(place: Option<usize>, i: usize) -> bool
 
 /// Whether the i-th parameter of a head stands: it is the first that has its name, and its shape is derived.
 #[tactic(auto, unfolding(deputy_rules::specs::Heads::head_parameter_stands))]
-fn head_parameter_stands(
-    params: &[Param],
-    shapes: &[Option<Shape>],
-    i: usize,
-    name: &Name,
-) -> bool
+fn head_parameter_stands(params: &[Param], shapes: &[Option<Shape>], i: usize, name: &Name) -> bool
     ensures { result ≡ spec.head_parameter_stands params.now shapes.now i name.now }
 {
     is_place(parameter_place(params, name), i) && is_declared(shapes, i)
@@ -65,13 +60,20 @@ pub(crate) fn wrong_in_head(shapes: &[Option<Shape>], h: &Head) -> Option<u32>
     wrong_head_parameter(h.params.as_slice(), shapes)
 }
 
+/// Nothing, in place of a shape.
+fn unseen(_shape: &Option<Shape>) -> Option<Shape>
+    ensures { result ≡ None }
+{
+    None
+}
+
 /// None of these shapes.
 fn no_shapes(alloc: Global, shapes: &[Option<Shape>]) -> Result<Shapes, Memory>
     ensures { IfOk result (λ none. none ≡ spec.no_shapes shapes.now) }
 {
     let mut none = Items::new(alloc);
-    for _ in shapes {
-        none.push(None)?;
+    for shape in shapes {
+        none.push(unseen(shape))?;
     }
     Ok(none)
 }

@@ -16,8 +16,13 @@ use crate::functions::Functions;
 use crate::handlers::handler;
 use crate::targets::{automatic_target, call_target, free_slot};
 use c_tree::{Expr, TypeName};
-use checked_tree::{Argument, CheckedStmt, KernelName, KernelResult, ParameterKind, PointerOperand, Scalar, Shape, Target, kernel_named, kernel_row};
-use deputy_rules::{Asked, Derived, Handed, KernelArguments, Pointed, DerivingRefusal, Returned, Value};
+use checked_tree::{
+    Argument, CheckedStmt, KernelName, KernelResult, ParameterKind, PointerOperand, Scalar, Shape,
+    Target, kernel_named, kernel_row,
+};
+use deputy_rules::{
+    Asked, Derived, DerivingRefusal, Handed, KernelArguments, Pointed, Returned, Value,
+};
 use deputy_types::Element;
 use rules_expr::{Context, derive, integer_of, promoted, value_of};
 use sd_base::Name;

@@ -13,7 +13,7 @@ use crate::coerce::{coerce_counted, coerce_to};
 use crate::convert::{converted_side, handed};
 use crate::tags::tag_change;
 use checked_tree::{Bounds, CheckedExpr, CheckedStmt, Scalar, Shape};
-use deputy_rules::{Asked, AskedCond, Derived, Handed, Place, DerivingRefusal, Source, Whole};
+use deputy_rules::{Asked, AskedCond, Derived, DerivingRefusal, Handed, Place, Source, Whole};
 use deputy_types::Element;
 use rules_expr::{Context, Ids, ask, integer_of, is_nullterm, one, sum_of};
 use sd_base::CheckKind;

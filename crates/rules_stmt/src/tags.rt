@@ -4,7 +4,7 @@ ghost use Rattle.deputy_rules.specs.Changes as spec;
 ghost use Rattle.deputy_rules.specs.Deriving.{Derives};
 
 use checked_tree::{Part, Scalar, Sum, UnionShape, copied_sum};
-use deputy_rules::{Asked, AskedCond, Place, DerivingRefusal};
+use deputy_rules::{Asked, AskedCond, DerivingRefusal, Place};
 use deputy_types::TypeTable;
 use rules_expr::{Context, Ids, ask, atom_part, beyond, boxed_copy, load_form, one, with_part};
 use sd_base::CheckKind;

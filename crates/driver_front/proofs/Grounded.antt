@@ -1,5 +1,5 @@
 -- A text is refused on one of the grounds.
-use Rattle.std.proofs.Common.{◌≡◌, ℕ, Option, Some, None, Result, Ok, Err, refl, sym, subst}
+use Rattle.std.proofs.Common.{◌≡◌, ℕ, Option, Some, None, Result, Ok, Err, refl, subst}
 use Rattle.c_tree.specs.declared.items.Unit.{Unit as TextUnit}
 use Rattle.c_tree.specs.Bytes.{Text}
 use Rattle.c_tree.specs.ShortUnit.{IsShortUnit}

@@ -1,5 +1,5 @@
 -- The sums that bound a pointer are light, so that none of them reaches the machine's limit.
-use Rattle.std.proofs.Common.{◌≡◌, ◌⊎◌, inl, inr, ℕ, Bool, true, false, List, [], Option, Some, None, if◌then◌else◌, refl, arith}
+use Rattle.std.proofs.Common.{◌≡◌, ◌⊎◌, inl, inr, ℕ, Bool, true, false, [], Some, None, if◌then◌else◌, arith}
 use Rattle.std.proofs.lemmas.List.Elements.{All-nil}
 use Rattle.c_tree.specs.declared.expressions.Expr.{Expr}
 use Rattle.c_tree.specs.declared.items.Function.{Function}
@@ -10,7 +10,6 @@ use Rattle.deputy_types.specs.declared.element.Element.{Element}
 use Rattle.deputy_types.specs.Options.{and_then}
 use Rattle.deputy_types.specs.Table.{Table}
 use Rattle.deputy_types.proofs.Inversions.{some_then}
-use Rattle.deputy_rules.specs.declared.derived.Derived.{Derived}
 use Rattle.deputy_rules.specs.declared.derived.Value.{Value}
 use Rattle.deputy_rules.specs.declared.derived.Value.TheVariants as value
 use Rattle.deputy_rules.specs.declared.handed.Handed.{Handed}
@@ -18,7 +17,6 @@ use Rattle.deputy_rules.specs.declared.signature.Returned.{Returned}
 use Rattle.deputy_rules.specs.Calls.{freed_value}
 use Rattle.deputy_rules.specs.Coercion.{handed, handed_over}
 use Rattle.deputy_rules.specs.Context.{Context}
-use Rattle.deputy_rules.specs.Expressions.{derive}
 use Rattle.deputy_rules.specs.Functions.{context_of}
 use Rattle.deputy_rules.specs.Numbering.{Numbered}
 use Rattle.deputy_rules.specs.Pointers.{is_written}
@@ -28,7 +26,7 @@ use Rattle.light_checks.specs.Lightness.{IsLightCheck}
 use Rattle.light_checks.specs.PointerBounds.{HandsOver}
 use Rattle.light_checks.specs.ShortUnits.{IsFunctionOf}
 use Rattle.light_checks.specs.SumLimits.{PartsFit, free_sum_value}
-use Rattle.light_checks.specs.Weights.{IsDerived, IsHanded, IsPointed, IsValue}
+use Rattle.light_checks.specs.Weights.{IsDerived, IsHanded, IsValue}
 use Rattle.light_checks.specs.Within.{IsContext}
 use Rattle.light_checks.proofs.AssignmentRules.{derive_short}
 use Rattle.light_checks.proofs.CoercionRules.{handed_is, null_or_none, null_handed}

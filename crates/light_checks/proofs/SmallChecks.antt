@@ -14,7 +14,6 @@ use Rattle.c_tree.specs.declared.statements.Body.TheVariants as body
 use Rattle.c_tree.specs.declared.statements.Simple.{Simple}
 use Rattle.c_tree.specs.declared.statements.Stmt.{Stmt, map-Stmt, roll-Stmt}
 use Rattle.c_tree.specs.declared.statements.Stmt.TheVariants as statement
-use Rattle.c_tree.specs.Slots.{locals_of}
 use Rattle.checked_tree.specs.declared.statements.CheckedStmt.{CheckedStmt}
 use Rattle.checked_tree.specs.declared.units.CheckedFn.{CheckedFn}
 use Rattle.checked_tree.specs.declared.units.CheckedUnit.{CheckedUnit}
@@ -23,7 +22,7 @@ use Rattle.deputy_rules.specs.declared.signature.Returned.{Returned}
 use Rattle.deputy_rules.specs.Checking.{Fault, NoRule, Limit, Checking, with_outcome, afterwards, done, in_turn}
 use Rattle.deputy_rules.specs.Context.{Context}
 use Rattle.deputy_rules.specs.Functions.{text_of, context_of, no_checks, checked_function, finished, check_statements, check_declared, check_result, check_function, wrong_prototype, behind_prototype, behind_function, check_items, checked_with, checked}
-use Rattle.deputy_rules.specs.Heads.{SeenText, function_stands, is_over, result_of, slot_shapes, wrong_declaration}
+use Rattle.deputy_rules.specs.Heads.{SeenText, function_stands, is_over, result_of, wrong_declaration}
 use Rattle.deputy_rules.specs.Numbering.{Numbered, numbered}
 use Rattle.deputy_rules.specs.Statements.{Home, numbered_at, with_numbers, simple, condition, single, check_statement, check_body, act, controlling, statement_context}
 use Rattle.deputy_types.specs.Table.{Table}

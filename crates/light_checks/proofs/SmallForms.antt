@@ -1,6 +1,5 @@
 -- The forms of a check that is numbered are small.
-use Rattle.std.proofs.Common.{◌≡◌, ℕ, ◌+◌, ◌<◌, ◌≤◌, ◌^◌, Bool, true, false, ◌&&◌, nat_lt, List, [], ◌∷◌, ◌++◌, length, Option, Some, None, option_map, ℤ, pos, ◌*ℤ◌, unsigned_abs, if◌then◌else◌, All, refl, sym, ap, ◌∙◌, subst, arith}
-use Rattle.std.proofs.lemmas.Int.{ints}
+use Rattle.std.proofs.Common.{◌≡◌, ℕ, ◌+◌, ◌<◌, ◌≤◌, ◌^◌, Bool, true, false, ◌&&◌, nat_lt, List, [], ◌∷◌, length, Option, Some, None, ℤ, pos, ◌*ℤ◌, unsigned_abs, if◌then◌else◌, All, refl, ap, ◌∙◌, subst, arith}
 use Rattle.std.proofs.lemmas.List.Elements.{All-push}
 use Rattle.dep_expr.specs.Linear.{LinearForm, plus, number_form, term_form}
 use Rattle.dep_expr.specs.Merged.{merged}

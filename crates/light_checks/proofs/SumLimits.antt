@@ -1,5 +1,5 @@
 -- A small form, and a light sum, have the value that they have where nothing is limited: over numbers of 32 bits no sum on the way reaches the limit.
-use Rattle.std.proofs.Common.{◌≡◌, ℕ, ◌+◌, ◌*◌, ◌<◌, ◌≤◌, ◌^◌, IsTrue, Bool, List, [], ◌∷◌, ℤ, pos, ◌+ℤ◌, ◌*ℤ◌, unsigned_abs, Ok, Err, slice_get, if◌then◌else◌, refl, sym, ap, ◌∙◌, subst, arith}
+use Rattle.std.proofs.Common.{◌≡◌, ℕ, ◌+◌, ◌*◌, ◌<◌, ◌≤◌, ◌^◌, IsTrue, Bool, List, [], ◌∷◌, ℤ, pos, ◌+ℤ◌, ◌*ℤ◌, unsigned_abs, Ok, Err, slice_get, if◌then◌else◌, refl, ap, ◌∙◌, arith}
 use Rattle.std.proofs.lemmas.Bool.{lt-ltb}
 use Rattle.std.proofs.lemmas.Int.{ints, unsigned_abs-mul}
 use Rattle.std.proofs.lemmas.Nat.{mul-le}
@@ -14,9 +14,9 @@ use Rattle.checked_tree.specs.declared.sums.Sum.{Sum}
 use Rattle.checked_tree.specs.Outcome.{Got, ◌>>=◌}
 use Rattle.checked_tree.specs.Numbers.{is_value, sum_limit, limited}
 use Rattle.checked_tree.specs.Conditions.{State, peek, atom_value, sum_from, form_value}
-use Rattle.checked_tree.specs.Operands.{part_value, parts_from, sum_value}
+use Rattle.checked_tree.specs.Operands.{parts_from, sum_value}
 use Rattle.light_checks.specs.Lightness.{factors, constants, IsLight}
-use Rattle.light_checks.specs.SumLimits.{IsSmallForm, AtomsFit, PartFits, PartsFit, free_from, free_form_value, free_parts_from, free_sum_value}
+use Rattle.light_checks.specs.SumLimits.{IsSmallForm, AtomsFit, PartsFit, free_from, free_form_value, free_parts_from, free_sum_value}
 
 value_small : (v : ℤ) → IsTrue (is_value v) → unsigned_abs v ≤ 2 ^ 32
 value_small v h = grind (arith, ints)

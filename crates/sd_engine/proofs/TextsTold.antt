@@ -1,5 +1,5 @@
 -- What a run makes of the items of a text it makes of the text, and a refusal that is told is one.
-use Rattle.std.proofs.Common.{◌≡◌, Option, None, Some, Result, Ok, Err, IfOk, sym, subst}
+use Rattle.std.proofs.Common.{◌≡◌, None, Some, Result, Ok, Err, IfOk, sym, subst}
 use Rattle.std.specs.Prelude.{◌≢◌}
 use Rattle.c_tree.specs.declared.items.Unit.{Unit as TextUnit}
 use Rattle.c_tree.specs.Bytes.{Text}

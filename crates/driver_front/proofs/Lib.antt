@@ -1,3 +1,4 @@
 pub mod LaterBlocks
 pub mod Unreadable
 pub mod OneVerdict
+pub mod Grounded

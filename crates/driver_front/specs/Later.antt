@@ -149,13 +149,13 @@ is_later_item (item.Function f) = is_later_function f
 is_later_item (item.Prototype h) = is_later_head h
 
 -- the line of an item's first word
-abbrev pub line_of : Item → ℕ
-line_of (item.Struct s) = s.line
-line_of (item.Global g) = g.line
-line_of (item.Function f) = f.head.line
-line_of (item.Prototype h) = h.line
+abbrev pub item_line : Item → ℕ
+item_line (item.Struct s) = s.line
+item_line (item.Global g) = g.line
+item_line (item.Function f) = f.head.line
+item_line (item.Prototype h) = h.line
 
 -- the line of the first item that waits
 abbrev pub first_later : List Item → Option ℕ
 first_later [] = None
-first_later (x ∷ xs) = if is_later_item x then Some (line_of x) else first_later xs
+first_later (x ∷ xs) = if is_later_item x then Some (item_line x) else first_later xs

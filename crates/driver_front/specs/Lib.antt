@@ -1,4 +1,5 @@
 pub mod Later
 pub mod Verdict
-pub mod Wanting
+pub mod Parts
+pub mod Grounds
 pub mod Reasons

@@ -1,18 +1,12 @@
 -- How a verdict is told: the line and the cause of a refusal, and the cause as a word.
 use Rattle.std.specs.Prelude.{◌≡◌, ℕ, List, codes, Option, Some, None, Ok, Err}
 use Rattle.c_tree.specs.Bytes.{Text}
-use Rattle.c_token.specs.declared.refusal.ReadRefusal.{ReadRefusal}
-use Rattle.c_token.specs.declared.refusal.ReadRefusal.TheVariants as reading
-use Rattle.check_numbering.specs.declared.refusal.RuleRefusal.{RuleRefusal}
-use Rattle.check_numbering.specs.declared.refusal.RuleRefusal.TheVariants as rule
 use Rattle.checked_tree.specs.declared.units.CheckedUnit.{CheckedUnit}
-use Rattle.deputy_types.specs.declared.refusal.TypeRefusal.{TypeRefusal}
-use Rattle.deputy_types.specs.declared.refusal.TypeRefusal.TheVariants as type
 use Rattle.driver_front.specs.declared.causes.Cause.{Cause}
 use Rattle.driver_front.specs.declared.causes.Cause.TheVariants as cause
 use Rattle.driver_front.specs.declared.reason.Reason.{Reason}
-use Rattle.driver_front.specs.declared.refusal.Refusal.{Refusal}
-use Rattle.driver_front.specs.declared.refusal.Refusal.TheVariants as refusal
+use Rattle.driver_front.specs.declared.refusal.DriverRefusal.{DriverRefusal}
+use Rattle.driver_front.specs.declared.refusal.DriverRefusal.TheVariants as refusal
 use Rattle.driver_front.specs.Verdict.{Verdict, IsUnread}
 
 -- A cause as it is printed.
@@ -28,29 +22,14 @@ spelling_of cause.Later = codes "later"
 abbrev pub at : ℕ → Cause → Option Reason
 at n c = Some (record { line = n; cause = c })
 
-abbrev pub reason_of_read : ReadRefusal → Option Reason
-reason_of_read (reading.NotAWord n) = at n cause.Word
-reason_of_read (reading.NoItem n) = at n cause.Item
-reason_of_read (reading.Limit n kind) = at n cause.Limit
-reason_of_read (reading.NoExpr n) = None
-reason_of_read reading.Memory = None
-
-abbrev pub reason_of_type : TypeRefusal → Option Reason
-reason_of_type (type.NoDecl n) = at n cause.Type
-reason_of_type (type.Limit n kind) = at n cause.Limit
-reason_of_type type.Memory = None
-
-abbrev pub reason_of_rule : RuleRefusal → Option Reason
-reason_of_rule (rule.NoRule n) = at n cause.Rule
-reason_of_rule (rule.Limit n kind) = at n cause.Limit
-reason_of_rule rule.Memory = None
-
 -- the line and the cause of a refusal; want of memory has none
-abbrev pub reason_of : Refusal → Option Reason
-reason_of (refusal.Read r) = reason_of_read r
+abbrev pub reason_of : DriverRefusal → Option Reason
+reason_of (refusal.NotAWord n) = at n cause.Word
+reason_of (refusal.NoItem n) = at n cause.Item
 reason_of (refusal.Later n) = at n cause.Later
-reason_of (refusal.Decl r) = reason_of_type r
-reason_of (refusal.Rule r) = reason_of_rule r
+reason_of (refusal.NoDecl n) = at n cause.Type
+reason_of (refusal.NoRule n) = at n cause.Rule
+reason_of (refusal.Limit n kind) = at n cause.Limit
 reason_of refusal.Memory = None
 
 -- A text is accepted, as some checked unit.
@@ -58,13 +37,13 @@ abbrev pub IsAccepted : Text → Type 0
 IsAccepted t = (c : CheckedUnit) × Verdict t (Ok c)
 
 -- A text is refused on this line for this cause.
-pub record IsRefused (t : Text) (n : ℕ) (c : Cause) : Type 0 where
-  pub refusal : Refusal
+pub record IsRefusedAt (t : Text) (n : ℕ) (c : Cause) : Type 0 where
+  pub refusal : DriverRefusal
   pub verdict : Verdict t (Err refusal)
   pub told : reason_of refusal ≡ at n c
 
 -- A text is not read, on this line for this cause.
 pub record IsUnreadAt (t : Text) (n : ℕ) (c : Cause) : Type 0 where
-  pub refusal : Refusal
+  pub refusal : DriverRefusal
   pub unread : IsUnread t refusal
   pub told : reason_of refusal ≡ at n c

@@ -2,9 +2,9 @@
 ghost use Rattle.std.specs.Prelude.{◌≡◌, ◌≢◌, ◌≤◌, count_by, ◌==◌, Err};
 ghost use Rattle.c_tree.specs.ShortUnit.{IsShortUnit};
 ghost use Rattle.driver_front.specs.Verdict.{Verdict, verdict_of};
-ghost use Rattle.driver_front.specs.Wanting.{type_refusal as of_layout, rule_refusal as of_rules};
+ghost use Rattle.driver_front.specs.Parts.{type_refusal as of_layout, rule_refusal as of_rules};
 
-use crate::Refusal;
+use crate::DriverRefusal;
 use crate::later_items::first_later;
 use crate::reading::read_driver;
 use c_tree::Unit;
@@ -16,12 +16,12 @@ use std::alloc::Global;
 
 /// What becomes of a driver text: the checked unit that the rules derive from it, or its refusal.
 ///
-/// Refused by the first of these that holds: it is not read (`Read`); an item uses what is not served yet (`Later`); a declaration stands against the
-/// rules of declarations or passes a limit (`Decl`); no rule derives what stands in a function, or it has too many locals (`Rule`). `Memory` where
-/// memory is wanting. A text has one verdict (`one_verdict`), so this is the only answer.
-pub fn accept(alloc: Global, text: &[u8]) -> Result<CheckedUnit, Refusal>
+/// Refused by the first of these that holds: it is not read (`NotAWord`, `NoItem`, `Limit`); an item uses what is not served yet (`Later`); a declaration stands
+/// against the rules of declarations (`NoDecl`) or passes a limit (`Limit`); no rule derives what stands in a function (`NoRule`), or it has too many locals
+/// (`Limit`). `Memory` where memory is wanting. A text has one verdict (`one_verdict`), so this is the only answer.
+pub fn accept(alloc: Global, text: &[u8]) -> Result<CheckedUnit, DriverRefusal>
     requires { count_by (λ byte. byte == 10) text.now ≤ 4294967294 }
-    ensures { result ≢ Err Refusal.Memory → Verdict text.now result }
+    ensures { result ≢ Err DriverRefusal.Memory → Verdict text.now result }
 {
     match read_driver(alloc, text) {
         Ok(unit) => accept_unit(alloc, &unit),
@@ -31,12 +31,12 @@ pub fn accept(alloc: Global, text: &[u8]) -> Result<CheckedUnit, Refusal>
 
 /// What becomes of a text that is read.
 #[tactic(auto, unfolding(crate::specs::Verdict::verdict_of))]
-fn accept_unit(alloc: Global, unit: &Unit) -> Result<CheckedUnit, Refusal>
+fn accept_unit(alloc: Global, unit: &Unit) -> Result<CheckedUnit, DriverRefusal>
     requires { IsShortUnit unit.now }
-    ensures { result ≢ Err Refusal.Memory → result ≡ verdict_of unit.now }
+    ensures { result ≢ Err DriverRefusal.Memory → result ≡ verdict_of unit.now }
 {
     if let Some(line) = first_later(unit.items.as_slice()) {
-        return Err(Refusal::Later(line));
+        return Err(DriverRefusal::Later(line));
     }
     let types = match layouts(alloc, unit) {
         Ok(types) => types,
@@ -49,21 +49,23 @@ fn accept_unit(alloc: Global, unit: &Unit) -> Result<CheckedUnit, Refusal>
 }
 
 /// A refusal of the declarations.
-fn type_refusal(refusal: TypeRefusal) -> Refusal
+fn type_refusal(refusal: TypeRefusal) -> DriverRefusal
     ensures { result ≡ of_layout refusal }
 {
     match refusal {
-        TypeRefusal::NoDecl(_) | TypeRefusal::Limit(_, _) => Refusal::Decl(refusal),
-        TypeRefusal::Memory => Refusal::Memory,
+        TypeRefusal::NoDecl(line) => DriverRefusal::NoDecl(line),
+        TypeRefusal::Limit(line, kind) => DriverRefusal::Limit(line, kind),
+        TypeRefusal::Memory => DriverRefusal::Memory,
     }
 }
 
 /// A refusal of the rules.
-fn rule_refusal(refusal: RuleRefusal) -> Refusal
+fn rule_refusal(refusal: RuleRefusal) -> DriverRefusal
     ensures { result ≡ of_rules refusal }
 {
     match refusal {
-        RuleRefusal::NoRule(_) | RuleRefusal::Limit(_, _) => Refusal::Rule(refusal),
-        RuleRefusal::Memory => Refusal::Memory,
+        RuleRefusal::NoRule(line) => DriverRefusal::NoRule(line),
+        RuleRefusal::Limit(line, kind) => DriverRefusal::Limit(line, kind),
+        RuleRefusal::Memory => DriverRefusal::Memory,
     }
 }

@@ -1,5 +1,5 @@
 //! `Cause`: why a driver text is refused.
-ghost use Rattle.std.specs.Prelude.{◌≡◌};
+ghost use Rattle.std.specs.Prelude.{◌≡◌, ◌≤◌, length};
 ghost use Rattle.driver_front.specs.Reasons.{spelling_of};
 
 /// Why a driver text is refused, as it is printed.
@@ -22,7 +22,8 @@ pub enum Cause {
 impl Cause {
     /// The cause as one word.
     pub fn spelling(self) -> &'static [u8]
-        ensures { result.now ≡ spelling_of self }
+        ensures word { result.now ≡ spelling_of self }
+        ensures short { length result.now ≤ 63 }
     {
         match self {
             Cause::Word => b"word",

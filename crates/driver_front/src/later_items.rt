@@ -19,7 +19,7 @@ pub(crate) fn first_later(items: &[Item]) -> Option<u32>
 
 /// The line of an item's first word.
 pub fn item_line(item: &Item) -> u32
-    ensures { result ≡ spec.line_of item.now }
+    ensures { result ≡ spec.item_line item.now }
 {
     match item {
         Item::Struct(structure) => structure.line,

@@ -13,10 +13,7 @@ mod refusal;
 pub use acceptance::accept;
 pub use causes::Cause;
 pub use later_items::item_line;
-pub use laws::one_verdict;
+pub use laws::{no_text_is_refused_for_a_check, one_verdict};
 pub use reading::read_driver;
 pub use reason::Reason;
-pub use refusal::Refusal;
-
-#[cfg(test)]
-mod tests;
+pub use refusal::DriverRefusal;

@@ -74,28 +74,28 @@ Statements = Checking Numbered CheckedStmt
 
 -- ---- statements and bodies by their forms
 module _ (ctx : Context) (home : Home) where
-  at_simple : (s : Simple) (b : Numbered) → check_statement ctx home (statement.Simple s) b ≡ simple ctx home s b
+  pub at_simple : (s : Simple) (b : Numbered) → check_statement ctx home (statement.Simple s) b ≡ simple ctx home s b
   unfolding check_statement check_body
   at_simple s b = ap (λ (p : Statements). p b) (ap (check_statement ctx home) (sym (statement.rolls-Simple s)) ∙ fold-roll-Stmt Bodies Statements (body_level ctx home) (statement_level ctx home) (Stmt-F.Simple s))
 
-  at_if : (n : ℕ) (x : Expr) (a : Body) (b : Numbered) → check_statement ctx home (statement.If n x a None) b ≡ if_level ctx n x (check_body ctx home a) (done []) b
+  pub at_if : (n : ℕ) (x : Expr) (a : Body) (b : Numbered) → check_statement ctx home (statement.If n x a None) b ≡ if_level ctx n x (check_body ctx home a) (done []) b
   unfolding check_statement check_body
   at_if n x a b = ap (λ (p : Statements). p b) (ap (check_statement ctx home) (sym (statement.rolls-If n x a None)) ∙ fold-roll-Stmt Bodies Statements (body_level ctx home) (statement_level ctx home) (Stmt-F.If n x a None))
 
-  at_else : (n : ℕ) (x : Expr) (a c : Body) (b : Numbered) → check_statement ctx home (statement.If n x a (Some c)) b ≡ if_level ctx n x (check_body ctx home a) (check_body ctx home c) b
+  pub at_else : (n : ℕ) (x : Expr) (a c : Body) (b : Numbered) → check_statement ctx home (statement.If n x a (Some c)) b ≡ if_level ctx n x (check_body ctx home a) (check_body ctx home c) b
   unfolding check_statement check_body
   at_else n x a c b =
       ap (λ (p : Statements). p b) (ap (check_statement ctx home) (sym (statement.rolls-If n x a (Some c))) ∙ fold-roll-Stmt Bodies Statements (body_level ctx home) (statement_level ctx home) (Stmt-F.If n x a (Some c)))
 
-  at_while : (n : ℕ) (x : Expr) (a : Body) (b : Numbered) → check_statement ctx home (statement.While n x a) b ≡ while_level ctx n x (check_body ctx home a) b
+  pub at_while : (n : ℕ) (x : Expr) (a : Body) (b : Numbered) → check_statement ctx home (statement.While n x a) b ≡ while_level ctx n x (check_body ctx home a) b
   unfolding check_statement check_body
   at_while n x a b = ap (λ (p : Statements). p b) (ap (check_statement ctx home) (sym (statement.rolls-While n x a)) ∙ fold-roll-Stmt Bodies Statements (body_level ctx home) (statement_level ctx home) (Stmt-F.While n x a))
 
-  at_block : (ss : List Stmt) (b : Numbered) → check_body ctx home (body.Block ss) b ≡ in_turn (map (check_statement ctx home) ss) [] b
+  pub at_block : (ss : List Stmt) (b : Numbered) → check_body ctx home (body.Block ss) b ≡ in_turn (map (check_statement ctx home) ss) [] b
   unfolding check_statement check_body
   at_block ss b = ap (λ (p : Bodies). p b) (ap (check_body ctx home) (sym (body.rolls-Block ss)) ∙ fold-roll-Body Bodies Statements (body_level ctx home) (statement_level ctx home) (Body-F.Block ss))
 
-  at_single : (s : Simple) (b : Numbered) → check_body ctx home (body.Single s) b ≡ single ctx home s b
+  pub at_single : (s : Simple) (b : Numbered) → check_body ctx home (body.Single s) b ≡ single ctx home s b
   unfolding check_statement check_body
   at_single s b = ap (λ (p : Bodies). p b) (ap (check_body ctx home) (sym (body.rolls-Single s)) ∙ fold-roll-Body Bodies Statements (body_level ctx home) (statement_level ctx home) (Body-F.Single s))
 

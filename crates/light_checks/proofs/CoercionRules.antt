@@ -61,7 +61,7 @@ converted_side_small s w is = by (constant_of w.written) is.small
     by None h = either (has_all s w.scalar)
 
 -- ---- what is handed over
-null_handed : (n : ℕ) → IsHanded n null
+pub null_handed : (n : ℕ) → IsHanded n null
 null_handed n =
     let zero = constant_address 0 n (omega arith) in
     record { at = zero; low = address_bound n (constant (pos 0)) zero; high = address_bound n (constant (pos 0)) zero }

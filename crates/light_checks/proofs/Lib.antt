@@ -1,5 +1,7 @@
 pub mod Numbered
 pub mod Ensuring
+pub mod SumLimits
+pub mod SmallForms
 pub mod Weighing
 pub mod Annotating
 pub mod Reading
@@ -24,7 +26,9 @@ pub mod ShortUnits
 pub mod Refusals
 pub mod SecondPasses
 pub mod Bodies
+pub mod SmallChecks
 pub mod Units
 pub mod ExpressionAlone
+pub mod PointerBounds
 mod Examples
 mod SeenExamples

@@ -34,7 +34,7 @@ pub at_line_within : (ctx : Context) (line : ℕ) (b : Numbered) → IsContext c
 at_line_within ctx line b is = record { table = is.table; slots = is.slots }
 
 module _ (u : TextUnit) (t : Table) (f : Function) (r : Returned) (is : IsFunctionOf u t f r) where
-  within : IsContext (context_of t f)
+  pub within : IsContext (context_of t f)
   within = context_within u t f is.short is.table is.function is.stands
 
   at_home : IsHome (home_of u t r)

@@ -9,3 +9,5 @@ pub mod Unruled
 pub mod Weights
 pub mod Within
 pub mod Words
+pub mod SumLimits
+pub mod PointerBounds

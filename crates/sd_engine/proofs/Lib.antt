@@ -2,7 +2,7 @@ pub mod Empty
 pub mod Fronts
 pub mod Runs
 pub mod Scenarios
-pub mod Verdicts
+pub mod TextsTold
 pub mod Checks
 pub mod Together
 pub mod Commands

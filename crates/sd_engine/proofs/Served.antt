@@ -1,5 +1,5 @@
 -- The output of a command whose texts are read.
-use Rattle.std.proofs.Common.{◌≡◌, ℕ, List, [], ◌∷◌, ◌++◌, Option, None, Some, IfSome, length, ◌≤◌, ap, ◌∙◌, sym, refl, subst}
+use Rattle.std.proofs.Common.{◌≡◌, ℕ, List, [], ◌∷◌, ◌++◌, Option, None, Some, IfSome, length, map, suc, ◌≤◌, ap, ◌∙◌, sym, refl, subst}
 use Rattle.sd_outside.specs.declared.read.TextFault.{TextFault}
 use Rattle.sd_outside.specs.declared.read.TextFault.TheVariants as fault
 use Rattle.sd_outside.specs.Sink.{more, IsCut}
@@ -54,3 +54,10 @@ texts-short left [] [] h = tt
 texts-short left [] (t ∷ texts) h = absurd h
 texts-short left (v ∷ names) [] h = absurd h
 texts-short left (v ∷ names) (t ∷ texts) h = (h.0.short, texts-short left names texts h.1)
+
+-- there are as many texts as names
+pub texts-few : {X Y : Type 0} (f : X → List ℕ) (g : Y → List ℕ) (left : List ℕ → Option (List ℕ)) (xs : List X) (ys : List Y) → AreTexts left (map f xs) (map g ys) → length ys ≡ length xs
+texts-few f g left [] [] h = refl
+texts-few f g left [] (y ∷ ys) h = absurd h
+texts-few f g left (x ∷ xs) [] h = absurd h
+texts-few f g left (x ∷ xs) (y ∷ ys) h = ap (λ n. suc n) (texts-few f g left xs ys h.1)

@@ -5,4 +5,5 @@ pub mod Statuses
 pub mod ThinProgram
 pub mod ThinRun
 pub mod ThinScenario
-pub mod Verdict
+pub mod ThinTexts
+pub mod Lines

@@ -1,10 +1,11 @@
 -- What the top call answers, and what it writes.
-use Rattle.std.specs.Prelude.{◌≡◌, ℕ, ◌+◌, ◌<◌, ◌≤◌, ◌⊎◌, List, [], ◌∷◌, ◌++◌, length, Option, IfSome, pos, codes}
+use Rattle.std.specs.Prelude.{◌≡◌, ℕ, ◌+◌, ◌<◌, ◌≤◌, ◌⊎◌, List, [], ◌∷◌, ◌++◌, length, Option, IfSome}
 use Rattle.sd_outside.specs.Sink.{more, IsCut}
 use Rattle.sd_outside.specs.declared.read.TextFault.{TextFault}
 use Rattle.sd_outside.specs.declared.read.TextFault.TheVariants as fault
 use Rattle.driver_front.specs.declared.causes.Cause.{Cause}
-use Rattle.driver_front.specs.Reasons.{IsAccepted, IsRefused}
+use Rattle.driver_front.specs.Reasons.{IsAccepted, IsRefusedAt, spelling_of}
+use Rattle.sd_engine.specs.declared.lines.Item.TheVariants as item
 use Rattle.sd_engine.specs.declared.status.Status.{Status}
 use Rattle.sd_engine.specs.declared.status.Status.TheVariants as status
 use Rattle.sd_engine.specs.declared.thin_program.Statement.{Statement}
@@ -13,9 +14,10 @@ use Rattle.sd_engine.specs.declared.thin_run.Stage.TheVariants as stage
 use Rattle.sd_engine.specs.declared.thin_scenario.Event.{Event}
 use Rattle.sd_engine.specs.Command.{CommandWords, run_words, check_words}
 use Rattle.sd_engine.specs.ThinProgram.{no_item, init}
-use Rattle.sd_engine.specs.ThinRun.{number_line, lines_from}
+use Rattle.sd_engine.specs.Lines.{line_of}
+use Rattle.sd_engine.specs.ThinRun.{lines_from}
 use Rattle.sd_engine.specs.ThinScenario.{IsScenario}
-use Rattle.sd_engine.specs.Verdict.{IsServedAs, IsNotRun, refusal_line}
+use Rattle.sd_engine.specs.ThinTexts.{IsServedAs, IsNotRun}
 
 -- the most bytes of a text
 abbrev pub most_bytes : ℕ
@@ -28,9 +30,9 @@ pub data Starts (t : List ℕ) : Stage → List Statement → Type 0 where
 
 -- what a run over these two texts writes, and its status where it is written whole
 pub data RunAnswers (scenario driver : List ℕ) : List ℕ → Status → Type 0 where
-  run_refused : {n : ℕ} {c : Cause} → IsNotRun driver n c → RunAnswers scenario driver (refusal_line 1 n c) status.Refused
+  run_refused : {n : ℕ} {c : Cause} → IsNotRun driver n c → RunAnswers scenario driver (line_of (item.Refused 1 n (spelling_of c))) status.Refused
   bad_scenario : {first : Stage} {list : List Statement} → Starts driver first list → ((events : List Event) → IsScenario scenario events → ⊥)
-      → RunAnswers scenario driver (codes "scenario 0\n") status.BadScenario
+      → RunAnswers scenario driver (line_of (item.Unread 0)) status.BadScenario
   run_done : {first : Stage} {list : List Statement} {events : List Event} → Starts driver first list → IsScenario scenario events
       → RunAnswers scenario driver (lines_from list first events) status.Done
 
@@ -42,7 +44,7 @@ AreAccepted (t ∷ ts) = IsAccepted t × AreAccepted ts
 -- the first text that is refused is the j-th, counted from k, at line n for the cause c
 abbrev pub FirstRefused : ℕ → List (List ℕ) → ℕ → ℕ → Cause → Type 0
 FirstRefused k [] j n c = ⊥
-FirstRefused k (t ∷ ts) j n c = ((j ≡ k) × IsRefused t n c) ⊎ (IsAccepted t × FirstRefused (k + 1) ts j n c)
+FirstRefused k (t ∷ ts) j n c = ((j ≡ k) × IsRefusedAt t n c) ⊎ (IsAccepted t × FirstRefused (k + 1) ts j n c)
 
 -- no text is too long
 abbrev pub AreShort : List (List ℕ) → Type 0
@@ -52,11 +54,11 @@ AreShort (t ∷ ts) = (length t ≤ most_bytes) × AreShort ts
 -- a line for each text that is accepted, counted from k
 abbrev pub accepted_lines : ℕ → List (List ℕ) → List ℕ
 accepted_lines k [] = []
-accepted_lines k (t ∷ ts) = number_line (codes "accepted ") (pos k) ++ accepted_lines (k + 1) ts
+accepted_lines k (t ∷ ts) = line_of (item.Accepted k) ++ accepted_lines (k + 1) ts
 
 -- what a check of these texts writes, and its status where it is written whole
 pub data CheckAnswers (texts : List (List ℕ)) : List ℕ → Status → Type 0 where
-  check_refused : (k n : ℕ) (c : Cause) → FirstRefused 1 texts k n c → CheckAnswers texts (refusal_line k n c) status.Refused
+  check_refused : (k n : ℕ) (c : Cause) → FirstRefused 1 texts k n c → CheckAnswers texts (line_of (item.Refused k n (spelling_of c))) status.Refused
   accepted : AreAccepted texts → CheckAnswers texts (accepted_lines 1 texts) status.Done
 
 -- what was written, by the status: all of the answer, or a front part of one where a write failed

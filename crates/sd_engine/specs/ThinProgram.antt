@@ -23,7 +23,7 @@ use Rattle.c_tree.specs.declared.types.Base.TheVariants as base
 use Rattle.c_tree.specs.declared.types.Number.{Number}
 use Rattle.c_tree.specs.declared.words.Suffix.{Suffix}
 use Rattle.c_tree.specs.declared.words.Suffix.TheVariants as suffix
-use Rattle.driver_front.specs.Later.{line_of}
+use Rattle.driver_front.specs.Later.{item_line}
 use Rattle.sd_engine.specs.declared.thin_program.Statement.{Statement}
 use Rattle.sd_engine.specs.declared.thin_program.Statement.TheVariants as statement
 use Rattle.sd_engine.specs.declared.thin_program.NumberSum.{NumberSum}
@@ -124,9 +124,9 @@ pub data Served : Type 0 where
 
 -- one function `init` and nothing behind it, or the line of the first item that is another
 abbrev pub alone : Option (List Statement) → Item → List Item → Served
-alone None first rest = later (line_of first)
+alone None first rest = later (item_line first)
 alone (Some statements) first [] = init statements
-alone (Some statements) first (second ∷ rest) = later (line_of second)
+alone (Some statements) first (second ∷ rest) = later (item_line second)
 
 abbrev pub items_of : List Item → Served
 items_of [] = no_item

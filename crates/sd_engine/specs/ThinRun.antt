@@ -1,26 +1,34 @@
 -- The lines of a thin run, from its statements and its events.
-use Rattle.std.specs.Prelude.{ℕ, ◌+◌, nat_lt, Bool, true, false, List, [], ◌∷◌, ◌++◌, ℤ, pos, codes, if◌then◌else◌}
-use Rattle.std.specs.Fmt.{signed_decimal}
+use Rattle.std.specs.Prelude.{ℕ, ◌+◌, nat_lt, Bool, true, false, List, [], ◌∷◌, ◌++◌, pos, Option, Some, None, if◌then◌else◌}
+use Rattle.sd_base.specs.declared.actors.Who.{Who}
+use Rattle.sd_engine.specs.declared.lines.Item.{Item}
+use Rattle.sd_engine.specs.declared.lines.Item.TheVariants as item
+use Rattle.sd_engine.specs.declared.lines.Obstacle.TheVariants as obstacle
+use Rattle.sd_engine.specs.declared.lines.Order.TheVariants as order
 use Rattle.sd_engine.specs.declared.thin_program.Statement.{Statement}
 use Rattle.sd_engine.specs.declared.thin_program.Statement.TheVariants.{Print, Return, Empty}
 use Rattle.sd_engine.specs.declared.thin_scenario.Event.{Event}
 use Rattle.sd_engine.specs.declared.thin_scenario.Event.TheVariants.{Load, Finish}
 use Rattle.sd_engine.specs.declared.thin_run.Stage.{Stage}
 use Rattle.sd_engine.specs.declared.thin_run.Stage.TheVariants.{NoInit, Absent, Ready, Over, Stopped}
+use Rattle.sd_engine.specs.Lines.{line_of, optional_line}
 
 -- the most steps of a run
 abbrev pub most_steps : ℕ
 most_steps = 100000
 
--- a line that ends in a number
-abbrev pub number_line : List ℕ → ℤ → List ℕ
-number_line front n = front ++ signed_decimal n ++ 10 ∷ []
+-- the activity of a thin run: task 1 of the first driver
+abbrev pub thin_task : Who
+thin_task = record { owner = 1; task = 1 }
 
--- the line of a statement; an empty one has none
+-- what a statement prints; an empty one nothing
+abbrev pub statement_item : Statement → Option Item
+statement_item (Print v) = Some (item.Print thin_task v)
+statement_item (Return v) = Some (item.Answered thin_task v)
+statement_item Empty = None
+
 abbrev pub statement_line : Statement → List ℕ
-statement_line (Print v) = number_line (codes "d1 t1 print ") v
-statement_line (Return v) = number_line (codes "d1 t1 done ") v
-statement_line Empty = []
+statement_line s = optional_line (statement_item s)
 
 -- a statement that ends the function
 abbrev pub is_return : Statement → Bool
@@ -39,13 +47,13 @@ abbrev pub run_stage : ℕ → List Statement → Stage
 run_stage n [] = if nat_lt n most_steps then Over (n + 1) else Stopped
 run_stage n (s ∷ ss) = if nat_lt n most_steps then (if is_return s then Over (n + 1) else run_stage (n + 1) ss) else Stopped
 
--- what a load writes at a stage, and the stage after it
-abbrev pub load_line : Stage → List ℕ
-load_line NoInit = codes "d1 load refused: no init\n"
-load_line Absent = codes "d1 loaded\n"
-load_line Ready = codes "d1 load refused: loaded\n"
-load_line (Over n) = codes "d1 load refused: loaded\n"
-load_line Stopped = []
+-- what a load prints at a stage, and the stage after it
+abbrev pub load_item : Stage → Option Item
+load_item NoInit = Some (item.Declined 1 order.Load obstacle.NoInit)
+load_item Absent = Some (item.Loaded 1)
+load_item Ready = Some (item.Declined 1 order.Load obstacle.Loaded)
+load_item (Over n) = Some (item.Declined 1 order.Load obstacle.Loaded)
+load_item Stopped = None
 
 abbrev pub loaded : Stage → Stage
 loaded NoInit = NoInit
@@ -56,11 +64,11 @@ loaded Stopped = Stopped
 
 -- the lines of an event at a stage
 abbrev pub event_lines : List Statement → Stage → Event → List ℕ
-event_lines ss stage Load = load_line stage
-event_lines ss NoInit Finish = codes "t1 idle\n"
-event_lines ss Absent Finish = codes "t1 idle\n"
+event_lines ss stage Load = optional_line (load_item stage)
+event_lines ss NoInit Finish = line_of (item.Idle 1)
+event_lines ss Absent Finish = line_of (item.Idle 1)
 event_lines ss Ready Finish = run_lines 0 ss
-event_lines ss (Over n) Finish = codes "t1 idle\n"
+event_lines ss (Over n) Finish = line_of (item.Idle 1)
 event_lines ss Stopped Finish = []
 
 -- the stage after an event
@@ -73,12 +81,15 @@ stage_after ss (Over n) Finish = Over n
 stage_after ss Stopped Finish = Stopped
 
 -- the last line: the steps that were taken to the end, or to the bound
+abbrev pub last_item : Stage → Item
+last_item NoInit = item.End 0
+last_item Absent = item.End 0
+last_item Ready = item.End 0
+last_item (Over n) = item.End n
+last_item Stopped = item.Bound most_steps
+
 abbrev pub last_line : Stage → List ℕ
-last_line NoInit = number_line (codes "end ") (pos 0)
-last_line Absent = number_line (codes "end ") (pos 0)
-last_line Ready = number_line (codes "end ") (pos 0)
-last_line (Over n) = number_line (codes "end ") (pos n)
-last_line Stopped = number_line (codes "bound ") (pos most_steps)
+last_line stage = line_of (last_item stage)
 
 -- the lines of the events from a stage on, and of the end
 abbrev pub lines_from : List Statement → Stage → List Event → List ℕ

@@ -4,18 +4,18 @@ use Rattle.sd_engine.specs.declared.thin_scenario.Event.{Event}
 use Rattle.sd_engine.specs.declared.thin_scenario.Event.TheVariants.{Load, Finish}
 
 -- the line of an event
-abbrev pub line_of : Event → List ℕ
-line_of Load = codes "load d1 1"
-line_of Finish = codes "finish 1"
+abbrev pub event_written : Event → List ℕ
+event_written Load = codes "load d1 1"
+event_written Finish = codes "finish 1"
 
 -- the lines of events, each ended by a line feed
-abbrev pub lines_of : List Event → List ℕ
-lines_of [] = []
-lines_of (e ∷ es) = line_of e ++ 10 ∷ lines_of es
+abbrev pub events_written : List Event → List ℕ
+events_written [] = []
+events_written (e ∷ es) = event_written e ++ 10 ∷ events_written es
 
 -- the text is the lines of these events; the last line feed may be absent
 abbrev pub IsLines : List ℕ → List Event → Type 0
-IsLines text events = (text ≡ lines_of events) ⊎ (text ++ 10 ∷ [] ≡ lines_of events)
+IsLines text events = (text ≡ events_written events) ⊎ (text ++ 10 ∷ [] ≡ events_written events)
 
 -- the text is a thin scenario of these events, of which there are at most 1,000
 pub record IsScenario (text : List ℕ) (events : List Event) : Type 0 where

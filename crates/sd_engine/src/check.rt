@@ -3,29 +3,31 @@ ghost use Rattle.std.specs.Prelude.{◌≡◌, ◌≢◌, ◌<◌, ◌≤◌, �
 ghost use Rattle.sd_outside.specs.Counts.{HasCause, Rose};
 ghost use Rattle.sd_outside.specs.Sink.{IsCut, more};
 ghost use Rattle.sd_engine.specs.Serve.{AreAccepted, AreShort, CheckAnswers, FirstRefused, IsAfterTexts, IsWritten, Writes, accepted_lines, most_bytes};
-ghost use Rattle.sd_engine.specs.Verdict.{refusal_line as line_of_refusal};
-ghost use Rattle.driver_front.specs.Reasons.{IsAccepted, IsRefused};
+ghost use Rattle.sd_engine.specs.Lines.{line_of};
+ghost use Rattle.sd_engine.specs.declared.lines.Item.TheVariants as item;
+ghost use Rattle.driver_front.specs.Reasons.{IsAccepted, IsRefusedAt, spelling_of};
 
+use crate::lines::{Item, print_item};
 use crate::status::Status;
-use crate::thin_run::write_count;
 use driver_front::{Cause, accept};
-use sd_base::Line;
-use sd_outside::{Sink, WriteFault, write_all};
+use sd_base::Name;
+use sd_outside::{Sink, WriteFault};
 use std::alloc::{AllocError, Global};
 
 /// A driver text that is refused.
 #[derive(Clone, Copy, PartialEq, Eq, Debug)]
-pub struct Refusal {
+struct RefusedText {
     /// The driver's number, counted from 1.
-    pub driver: usize,
+    driver: u8,
     /// The line of its text.
-    pub line: u32,
-    pub cause: Cause,
+    line: u32,
+    cause: Cause,
 }
 
 /// Serves a check whose texts are read: names the first that is refused, or writes a line for each.
 pub fn check_texts<K: Sink>(alloc: Global, texts: &[Vec<u8>], sink: &mut K) -> Status
-    requires { AreShort (map (λ text. text.items) texts.now) }
+    requires short { AreShort (map (λ text. text.items) texts.now) }
+    requires few { length texts.now ≤ 4 }
     ensures possible { IsAfterTexts result }
     ensures write_fault { result ≡ Status.WriteFault → Rose (K.faults sink.old) (K.faults sink.new) }
     ensures writes { result ≢ Status.WriteFault → K.faults sink.new ≡ K.faults sink.old }
@@ -35,13 +37,13 @@ pub fn check_texts<K: Sink>(alloc: Global, texts: &[Vec<u8>], sink: &mut K) -> S
     let Ok(found) = first_refused(alloc, texts, 1) else {
         return Status::OutOfMemory;
     };
-    let Some(refusal) = found else {
+    let Some(refused) = found else {
         return match write_accepted(sink, texts, 1) {
             Ok(()) => Status::Done,
             Err(_) => Status::WriteFault,
         };
     };
-    match write_refusal(sink, refusal) {
+    match print_refusal(sink, refused.driver, refused.line, refused.cause) {
         Ok(()) => Status::Refused,
         Err(_) => Status::WriteFault,
     }
@@ -51,13 +53,13 @@ pub fn check_texts<K: Sink>(alloc: Global, texts: &[Vec<u8>], sink: &mut K) -> S
 fn first_refused(
     alloc: Global,
     texts: &[Vec<u8>],
-    driver: usize,
-) -> Result<Option<Refusal>, AllocError>
+    driver: u8,
+) -> Result<Option<RefusedText>, AllocError>
     requires short { AreShort (map (λ text. text.items) texts.now) }
-    requires few { driver + length texts.now < 2 ^ 64 }
+    requires few { driver + length texts.now < 2 ^ 8 }
     ensures { IfOk result (λ found. MatchOption found
         (AreAccepted (map (λ text. text.items) texts.now))
-        (λ refusal. FirstRefused driver (map (λ text. text.items) texts.now) refusal.driver refusal.line refusal.cause)) }
+        (λ refused. FirstRefused driver (map (λ text. text.items) texts.now) refused.driver refused.line refused.cause)) }
 {
     let [first, rest @ ..] = texts else {
         return Ok(None);
@@ -70,16 +72,16 @@ fn first_refused(
 }
 
 /// The refusal of a text, where it is refused.
-fn refusal_of(alloc: Global, text: &[u8], driver: usize) -> Result<Option<Refusal>, AllocError>
+fn refusal_of(alloc: Global, text: &[u8], driver: u8) -> Result<Option<RefusedText>, AllocError>
     requires { length text.now ≤ most_bytes }
     ensures { IfOk result (λ found. MatchOption found
         (IsAccepted text.now)
-        (λ refusal. (refusal.driver ≡ driver) × IsRefused text.now refusal.line refusal.cause)) }
+        (λ refused. (refused.driver ≡ driver) × IsRefusedAt text.now refused.line refused.cause)) }
 {
     match accept(alloc, text) {
         Ok(_unit) => Ok(None),
         Err(refusal) => match refusal.reason() {
-            Some(reason) => Ok(Some(Refusal {
+            Some(reason) => Ok(Some(RefusedText {
                 driver,
                 line: reason.line,
                 cause: reason.cause,
@@ -90,8 +92,8 @@ fn refusal_of(alloc: Global, text: &[u8], driver: usize) -> Result<Option<Refusa
 }
 
 /// Writes a line for each text, where the first of these has the number `driver`.
-fn write_accepted<K: Sink>(sink: &mut K, texts: &[Vec<u8>], driver: usize) -> Result<(), WriteFault>
-    requires { driver + length texts.now < 2 ^ 64 }
+fn write_accepted<K: Sink>(sink: &mut K, texts: &[Vec<u8>], driver: u8) -> Result<(), WriteFault>
+    requires { driver + length texts.now < 2 ^ 8 }
     ensures ok { OnOk result (K.written sink.new ≡ more (K.written sink.old) (accepted_lines driver (map (λ text. text.items) texts.now))) }
     ensures err { OnErr result (IsCut (K.written sink.new) (more (K.written sink.old) (accepted_lines driver (map (λ text. text.items) texts.now)))) }
     ensures cause { HasCause (K.faults sink.old) (K.faults sink.new) result }
@@ -99,32 +101,33 @@ fn write_accepted<K: Sink>(sink: &mut K, texts: &[Vec<u8>], driver: usize) -> Re
     let [_first, rest @ ..] = texts else {
         return Ok(());
     };
-    write_count(sink, b"accepted ", driver)?;
+    print_item(sink, Item::Accepted { driver })?;
     write_accepted(sink, rest, driver + 1)
 }
 
-/// Writes the line of a refusal.
-pub fn write_refusal<K: Sink>(sink: &mut K, refusal: Refusal) -> Result<(), WriteFault>
-    ensures ok { OnOk result (K.written sink.new ≡ more (K.written sink.old) (line_of_refusal refusal.driver refusal.line refusal.cause)) }
-    ensures err { OnErr result (IsCut (K.written sink.new) (more (K.written sink.old) (line_of_refusal refusal.driver refusal.line refusal.cause))) }
+/// Writes the line of a driver text that is refused.
+pub fn print_refusal<K: Sink>(
+    sink: &mut K,
+    driver: u8,
+    line: u32,
+    cause: Cause,
+) -> Result<(), WriteFault>
+    ensures ok { OnOk result (K.written sink.new ≡ more (K.written sink.old) (line_of (item.Refused driver line (spelling_of cause)))) }
+    ensures err { OnErr result (IsCut (K.written sink.new) (more (K.written sink.old) (line_of (item.Refused driver line (spelling_of cause))))) }
     ensures cause { HasCause (K.faults sink.old) (K.faults sink.new) result }
 {
-    let line = refusal_line(refusal);
-    let written = write_all(sink, line.bytes());
+    let item = refusal(driver, line, cause);
+    let written = print_item(sink, item);
     written
 }
 
-/// The line of a refusal, with its line feed.
-fn refusal_line(refusal: Refusal) -> Line
-    ensures { result ≡ line_of_refusal refusal.driver refusal.line refusal.cause }
+/// What is printed of a driver text that is refused.
+fn refusal(driver: u8, line: u32, cause: Cause) -> Item
+    ensures { result ≡ item.Refused driver line (spelling_of cause) }
 {
-    let mut line = Line::new();
-    line.put_text(b"refused ");
-    line.put_dec(refusal.driver as i128);
-    line.put_text(b" ");
-    line.put_dec(refusal.line as i128);
-    line.put_text(b" ");
-    line.put_text(refusal.cause.spelling());
-    line.put_text(b"\n");
-    line
+    Item::Refused {
+        driver,
+        line,
+        cause: Name::new(cause.spelling()),
+    }
 }

@@ -5,6 +5,7 @@
 mod check;
 mod command;
 mod drivers;
+mod lines;
 mod status;
 mod texts;
 mod thin_program;
@@ -14,6 +15,3 @@ mod top_call;
 
 pub use status::Status;
 pub use top_call::serve;
-
-#[cfg(test)]
-mod tests;

@@ -3,7 +3,7 @@
 ghost use Rattle.std.specs.Prelude.{◌≡◌, IfOk};
 ghost use Rattle.std.specs.Option.{option_map};
 ghost use Rattle.sd_engine.specs.ThinProgram.{action_of, call_of, function_of, init_of, is_init_head as names_init, is_int_result as int_result, is_signed as signed_suffix, joined as both, number_total as number_sum, statement_of as meaning, statements_of as meanings, total as total_of};
-ghost use Rattle.sd_engine.specs.Verdict.{IsVerdictOf};
+ghost use Rattle.sd_engine.specs.ThinTexts.{IsThinUnit};
 
 use c_tree::{
     Action, Base, Binary, Expr, Function, Head, Item, Number, ResultBase, Stmt, Suffix, Unit,
@@ -38,9 +38,9 @@ pub struct NumberSum {
     pub value: i32,
 }
 
-/// What becomes of a driver text.
+/// What becomes of a driver text under a run.
 #[derive(Drop)]
-pub enum Verdict {
+pub enum ThinText {
     /// It is refused at this line, for this cause.
     Refused(u32, Cause),
     /// It has no item, so no function `init`.
@@ -51,18 +51,18 @@ pub enum Verdict {
 
 /// What a run makes of the items of a driver text: the first that it does not serve yet is refused with `Later`, at its line. The only error
 /// is want of memory.
-pub fn thin_program(alloc: Global, unit: &Unit) -> Result<Verdict, AllocError>
-    ensures { IfOk result (λ verdict. IsVerdictOf unit.now verdict) }
+pub fn thin_program(alloc: Global, unit: &Unit) -> Result<ThinText, AllocError>
+    ensures { IfOk result (λ found. IsThinUnit unit.now found) }
 {
     let [first, rest @ ..] = unit.items.as_slice() else {
-        return Ok(Verdict::NoItem);
+        return Ok(ThinText::NoItem);
     };
     let Some(statements) = init_statements(alloc, first)? else {
-        return Ok(Verdict::Refused(item_line(first), Cause::Later));
+        return Ok(ThinText::Refused(item_line(first), Cause::Later));
     };
     match rest {
-        [] => Ok(Verdict::Init(statements)),
-        [second, ..] => Ok(Verdict::Refused(item_line(second), Cause::Later)),
+        [] => Ok(ThinText::Init(statements)),
+        [second, ..] => Ok(ThinText::Refused(item_line(second), Cause::Later)),
     }
 }
 

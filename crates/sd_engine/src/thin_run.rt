@@ -1,17 +1,22 @@
 //! A thin run: one driver, one task, and the lines as they come.
-ghost use Rattle.std.specs.Prelude.{◌≡◌, ◌≤◌, ◌++◌, ◌∷◌, [], IfOk, OnOk, OnErr, length, pos};
-ghost use Rattle.std.specs.Fmt.{signed_decimal};
+ghost use Rattle.std.specs.Prelude.{◌≡◌, IfOk, OnOk, OnErr};
 ghost use Rattle.sd_outside.specs.Counts.{HasCause};
 ghost use Rattle.sd_outside.specs.Sink.{IsCut, more};
-ghost use Rattle.sd_engine.specs.ThinRun.{event_lines, last_line as line_at_end, lines_from, load_line as line_of_load, loaded as stage_of_load, is_return as ends_function, number_line as line_of_number, run_lines, run_stage, stage_after, statement_line as line_of_statement};
+ghost use Rattle.sd_engine.specs.ThinRun.{event_lines, is_return as ends_function, last_item as item_at_end, lines_from, load_item as item_of_load, loaded as stage_of_load, run_lines, run_stage, stage_after, statement_item as item_of_statement, statement_line as line_of_statement, thin_task};
+ghost use Rattle.sd_engine.specs.declared.lines.Item.TheVariants as item;
+ghost use Rattle.sd_engine.specs.declared.lines.Order.TheVariants as order;
 
+use crate::lines::{Item, Obstacle, Order, print_item, print_optional};
 use crate::thin_program::Statement;
 use crate::thin_scenario::Event;
-use sd_base::Line;
-use sd_outside::{Sink, WriteFault, write_all};
+use sd_base::Who;
+use sd_outside::{Sink, WriteFault};
 
 /// The most steps of a run: one for each statement that is run.
-const MOST_STEPS: usize = 100_000;
+const MOST_STEPS: u32 = 100_000;
+
+/// The activity of a thin run: task 1 of the first driver.
+const THIN_TASK: Who = Who { owner: 1, task: 1 };
 
 /// How far a thin run has come.
 #[derive(Clone, Copy, PartialEq, Eq, Debug)]
@@ -23,7 +28,7 @@ pub enum Stage {
     /// The driver is loaded, and its `init` stands before its first statement on task 1.
     Ready,
     /// `init` has ended, after this many steps.
-    Over(usize),
+    Over(u32),
     /// A step was needed when the most steps had been taken. Nothing more takes place.
     Stopped,
 }
@@ -46,7 +51,7 @@ pub fn thin_run<K: Sink>(
     for event in events {
         stage = thin_event(sink, statements, stage, *event)?;
     }
-    let ended = write_last(sink, stage);
+    let ended = print_item(sink, last_item(stage));
     ended
 }
 
@@ -64,13 +69,13 @@ fn thin_event<K: Sink>(
 {
     match event {
         Event::Load => {
-            write_all(sink, load_line(stage))?;
+            print_optional(sink, load_item(stage))?;
             Ok(loaded(stage))
         }
         Event::Finish => match stage {
             Stage::Ready => run_init(sink, statements),
             Stage::NoInit | Stage::Absent | Stage::Over(_) => {
-                write_all(sink, b"t1 idle\n")?;
+                print_item(sink, Item::Idle { task: 1 })?;
                 Ok(stage)
             }
             Stage::Stopped => Ok(stage),
@@ -78,15 +83,36 @@ fn thin_event<K: Sink>(
     }
 }
 
-/// What a load writes at a stage.
-fn load_line(stage: Stage) -> &'static [u8]
-    ensures { result.now ≡ line_of_load stage }
+/// What a load prints at a stage.
+fn load_item(stage: Stage) -> Option<Item>
+    ensures { result ≡ item_of_load stage }
 {
     match stage {
-        Stage::NoInit => b"d1 load refused: no init\n",
-        Stage::Absent => b"d1 loaded\n",
-        Stage::Ready | Stage::Over(_) => b"d1 load refused: loaded\n",
-        Stage::Stopped => b"",
+        Stage::NoInit => declined(Obstacle::NoInit),
+        Stage::Absent => Some(Item::Loaded { driver: 1 }),
+        Stage::Ready | Stage::Over(_) => declined(Obstacle::Loaded),
+        Stage::Stopped => None,
+    }
+}
+
+/// A load that is not carried out.
+fn declined(why: Obstacle) -> Option<Item>
+    ensures { result ≡ Some (item.Declined 1 order.Load why) }
+{
+    Some(Item::Declined {
+        driver: 1,
+        order: Order::Load,
+        why,
+    })
+}
+
+/// The end of `init` with this value.
+fn answered(value: i32) -> Item
+    ensures { result ≡ item.Answered thin_task value }
+{
+    Item::Answered {
+        who: THIN_TASK,
+        value: value as i64,
     }
 }
 
@@ -141,65 +167,32 @@ fn write_statement<K: Sink>(sink: &mut K, statement: Statement) -> Result<(), Wr
     ensures err { OnErr result (IsCut (K.written sink.new) (more (K.written sink.old) (line_of_statement statement))) }
     ensures cause { HasCause (K.faults sink.old) (K.faults sink.new) result }
 {
-    let line = statement_line(statement);
-    let written = write_all(sink, line.bytes());
+    let item = statement_item(statement);
+    let written = print_optional(sink, item);
     written
 }
 
-/// The line of a statement; an empty one has none.
-fn statement_line(statement: Statement) -> Line
-    ensures { result ≡ line_of_statement statement }
+/// What a statement prints; an empty one nothing.
+fn statement_item(statement: Statement) -> Option<Item>
+    ensures { result ≡ item_of_statement statement }
 {
     match statement {
-        Statement::Print(number) => number_line(b"d1 t1 print ", number as i128),
-        Statement::Return(number) => number_line(b"d1 t1 done ", number as i128),
-        Statement::Empty => Line::new(),
+        Statement::Print(value) => Some(Item::Print {
+            who: THIN_TASK,
+            value,
+        }),
+        Statement::Return(value) => Some(answered(value)),
+        Statement::Empty => None,
     }
 }
 
-/// Writes the last line of a run.
-fn write_last<K: Sink>(sink: &mut K, stage: Stage) -> Result<(), WriteFault>
-    ensures ok { OnOk result (K.written sink.new ≡ more (K.written sink.old) (line_at_end stage)) }
-    ensures err { OnErr result (IsCut (K.written sink.new) (more (K.written sink.old) (line_at_end stage))) }
-    ensures cause { HasCause (K.faults sink.old) (K.faults sink.new) result }
+/// What is printed last.
+fn last_item(stage: Stage) -> Item
+    ensures { result ≡ item_at_end stage }
 {
     match stage {
-        Stage::NoInit | Stage::Absent | Stage::Ready => write_count(sink, b"end ", 0),
-        Stage::Over(steps) => write_count(sink, b"end ", steps),
-        Stage::Stopped => write_count(sink, b"bound ", MOST_STEPS),
+        Stage::NoInit | Stage::Absent | Stage::Ready => Item::End { steps: 0 },
+        Stage::Over(steps) => Item::End { steps },
+        Stage::Stopped => Item::Bound { steps: MOST_STEPS },
     }
-}
-
-/// Writes a line that ends in a number.
-fn write_number<K: Sink>(sink: &mut K, front: &[u8], number: i128) -> Result<(), WriteFault>
-    requires { length front.now ≤ 100 }
-    ensures ok { OnOk result (K.written sink.new ≡ more (K.written sink.old) (line_of_number front.now number)) }
-    ensures err { OnErr result (IsCut (K.written sink.new) (more (K.written sink.old) (line_of_number front.now number))) }
-    ensures cause { HasCause (K.faults sink.old) (K.faults sink.new) result }
-{
-    let line = number_line(front, number);
-    let written = write_all(sink, line.bytes());
-    written
-}
-
-/// Writes a line that ends in a count.
-pub fn write_count<K: Sink>(sink: &mut K, front: &[u8], count: usize) -> Result<(), WriteFault>
-    requires { length front.now ≤ 100 }
-    ensures ok { OnOk result (K.written sink.new ≡ more (K.written sink.old) (line_of_number front.now (pos count))) }
-    ensures err { OnErr result (IsCut (K.written sink.new) (more (K.written sink.old) (line_of_number front.now (pos count)))) }
-    ensures cause { HasCause (K.faults sink.old) (K.faults sink.new) result }
-{
-    write_number(sink, front, count as i128)
-}
-
-/// A line that ends in a number, with its line feed.
-fn number_line(front: &[u8], number: i128) -> Line
-    requires { length front.now ≤ 100 }
-    ensures { result ≡ line_of_number front.now number }
-{
-    let mut line = Line::new();
-    line.put_text(front);
-    line.put_dec(number);
-    line.put_text(b"\n");
-    line
 }

@@ -1,6 +1,6 @@
 //! Thin scenarios: at most 1,000 lines, each `load d1 1` or `finish 1`.
 ghost use Rattle.std.specs.Prelude.{◌≡◌, ◌++◌, MatchOption, IfOk, List, ℕ};
-ghost use Rattle.sd_engine.specs.ThinScenario.{BeginsWithLine, IsScenario, line_of};
+ghost use Rattle.sd_engine.specs.ThinScenario.{BeginsWithLine, IsScenario, event_written};
 
 use std::alloc::{AllocError, Global};
 
@@ -42,8 +42,8 @@ pub fn thin_scenario(alloc: Global, text: &[u8]) -> Result<Option<Vec<Event>>, A
 /// The event of the line that the text begins with, and the text after that line.
 fn event_at(text: &[u8]) -> Option<(Event, &[u8])>
     ensures { MatchOption result
-        ((event : Event) (rest : List ℕ) → BeginsWithLine (line_of event) text.now rest → ⊥)
-        (λ found. BeginsWithLine (line_of found.0) text.now found.1.now) }
+        ((event : Event) (rest : List ℕ) → BeginsWithLine (event_written event) text.now rest → ⊥)
+        (λ found. BeginsWithLine (event_written found.0) text.now found.1.now) }
 {
     if let Some(rest) = after_line(text, b"load d1 1") {
         return Some((Event::Load, rest));

@@ -5,15 +5,16 @@ ghost use Rattle.sd_outside.specs.Counts.{Rose, RoseBeyond};
 ghost use Rattle.sd_engine.specs.Command.{all_differ, check_words, command_of, run_words};
 ghost use Rattle.sd_engine.specs.Serve.{IsAfterTexts, IsPossible, IsServed, IsTooLong, IsWritten, RunAnswers, Starts, Writes, WritesNothing, most_bytes, status_of};
 
-use crate::check::{Refusal, check_texts, write_refusal};
+use crate::check::{check_texts, print_refusal};
 use crate::command::{Command, read_words};
-use crate::drivers::verdict_of;
+use crate::drivers::thin_text;
+use crate::lines::{Item, print_item};
 use crate::status::Status;
 use crate::texts::read_texts;
-use crate::thin_program::{Statement, Verdict};
+use crate::thin_program::{Statement, ThinText};
 use crate::thin_run::{Stage, thin_run};
 use crate::thin_scenario::thin_scenario;
-use sd_outside::{Shelf, Sink, TextFault, read_text, write_all};
+use sd_outside::{Shelf, Sink, TextFault, read_text};
 use std::alloc::Global;
 
 /// Does what the words ask for: reads the texts that they name from the shelf, writes the output to the sink, and
@@ -124,23 +125,16 @@ fn serve_texts<K: Sink>(alloc: Global, scenario: &[u8], driver: &[u8], sink: &mu
     ensures nothing { result ≡ Status.OutOfMemory → K.written sink.new ≡ K.written sink.old }
     ensures output { Writes result → IsWritten (RunAnswers scenario.now driver.now) (K.written sink.old) (K.written sink.new) result }
 {
-    let Ok(verdict) = verdict_of(alloc, driver) else {
+    let Ok(text) = thin_text(alloc, driver) else {
         return Status::OutOfMemory;
     };
-    match verdict {
-        Verdict::Refused(line, cause) => {
-            let refusal = Refusal {
-                driver: 1,
-                line,
-                cause,
-            };
-            match write_refusal(sink, refusal) {
-                Ok(()) => Status::Refused,
-                Err(_) => Status::WriteFault,
-            }
-        }
-        Verdict::NoItem => run_program(alloc, scenario, driver, Stage::NoInit, &[], sink),
-        Verdict::Init(statements) => run_program(
+    match text {
+        ThinText::Refused(line, cause) => match print_refusal(sink, 1, line, cause) {
+            Ok(()) => Status::Refused,
+            Err(_) => Status::WriteFault,
+        },
+        ThinText::NoItem => run_program(alloc, scenario, driver, Stage::NoInit, &[], sink),
+        ThinText::Init(statements) => run_program(
             alloc,
             scenario,
             driver,
@@ -171,7 +165,7 @@ fn run_program<K: Sink>(
         return Status::OutOfMemory;
     };
     let Some(events) = read else {
-        return match write_all(sink, b"scenario 0\n") {
+        return match print_item(sink, Item::Unread { line: 0 }) {
             Ok(()) => Status::BadScenario,
             Err(_) => Status::WriteFault,
         };

@@ -3,5 +3,5 @@ use Rattle.sd_engine.proofs.Checks.{cut-accepted}
 use Rattle.sd_engine.proofs.Runs.{on-error}
 use Rattle.sd_engine.proofs.check.+write_accepted.Goals as goal
 
-pub returns-in_err-write_count-clause-err : goal.returns-in_err-write_count-clause-err
-returns-in_err-write_count-clause-err g t c = on-error c.from_residual.result (cut-accepted _ _ _ c.args.driver _ c.in-len1-up.len_at_least c.in_err-write_count.ensures.err)
+pub returns-in_err-print_item-clause-err : goal.returns-in_err-print_item-clause-err
+returns-in_err-print_item-clause-err g t c = on-error c.from_residual.result (cut-accepted _ _ _ c.args.driver _ c.in-len1-up.len_at_least c.in_err-print_item.ensures.err)

@@ -1,6 +1,6 @@
 -- The verdict of the text is the one that is told.
 use Rattle.std.proofs.Common.{refl}
-use Rattle.sd_engine.proofs.Verdicts.{accepted-told, refused-told}
+use Rattle.sd_engine.proofs.TextsTold.{accepted-told, refused-told}
 use Rattle.sd_engine.proofs.check.refusal_of.Goals as goal
 
 pub returns-in-Ok : goal.returns-in-Ok

@@ -3,8 +3,8 @@ use Rattle.sd_engine.specs.Serve.{bad_scenario, whole, cut}
 use Rattle.sd_engine.proofs.Served.{run-written, run-cut}
 use Rattle.sd_engine.proofs.top_call.run_program.Goals as goal
 
-pub returns-in-Ok-write_all-clause-output : goal.returns-in-Ok-write_all-clause-output
-returns-in-Ok-write_all-clause-output g c writes = whole (bad_scenario c.requires (rw c.in_default-read.is at c.in-Ok.ensures)) c.in-Ok-write_all.ensures.ok
+pub returns-in-Ok-print_item-clause-output : goal.returns-in-Ok-print_item-clause-output
+returns-in-Ok-print_item-clause-output g c writes = whole (bad_scenario c.requires (rw c.in_default-read.is at c.in-Ok.ensures)) c.in-Ok-print_item.ensures.ok
 
 pub returns-in-Err-clause-output : goal.returns-in-Err-clause-output
 returns-in-Err-clause-output g c writes = cut (bad_scenario c.requires (rw c.in_default-read.is at c.in-Ok.ensures)) c.in-Err.ensures.err

@@ -10,8 +10,8 @@ run_program-requires g c = without_init (rw c.in-NoItem.is at c.in-Ok.ensures)
 pub run_program-requires-in-Init : goal.run_program-requires-in-Init
 run_program-requires-in-Init g c = subst (λ list. Starts c.args.driver.now stage.Absent list) (sym c.as_slice.ensures.value) (with_init (rw c.in-Init.is at c.in-Ok.ensures))
 
-pub returns-in-Ok-write_refusal-clause-output : goal.returns-in-Ok-write_refusal-clause-output
-returns-in-Ok-write_refusal-clause-output g c writes = whole (run_refused (rw c.in-Refused.is at c.in-Ok.ensures)) c.in-Ok-write_refusal.ensures.ok
+pub returns-in-Ok-print_refusal-clause-output : goal.returns-in-Ok-print_refusal-clause-output
+returns-in-Ok-print_refusal-clause-output g c writes = whole (run_refused (rw c.in-Refused.is at c.in-Ok.ensures)) c.in-Ok-print_refusal.ensures.ok
 
 pub returns-in-Err-clause-output : goal.returns-in-Err-clause-output
 returns-in-Err-clause-output g c writes = cut (run_refused (rw c.in-Refused.is at c.in-Ok.ensures)) c.in-Err.ensures.err

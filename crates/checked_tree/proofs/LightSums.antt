@@ -67,10 +67,11 @@ module _ (s : State) where
       let x = has_part p h.0 in
       let a = abs-add sum x.number in
       let below : unsigned_abs (sum +ℤ x.number) + reach_of ps < sum_limit = omega (arith, a, x.size, l) in
-      let more = parts_value ps (sum +ℤ x.number) below h.1 in
-      ( more.0
-      , ap (λ (g : Got). g >>= λ v. limited (sum +ℤ v) >>= λ next. parts_from s ps next) x.is
-        ∙ (ap (λ (g : Got). g >>= λ next. parts_from s ps next) (limited_is (sum +ℤ x.number) (omega (arith, below))) ∙ more.1) )
+      let more = parts_value ps (sum +ℤ x.number) below h.1 in (
+        more.0,
+        ap (λ (g : Got). g >>= λ v. limited (sum +ℤ v) >>= λ next. parts_from s ps next) x.is
+            ∙ (ap (λ (g : Got). g >>= λ next. parts_from s ps next) (limited_is (sum +ℤ x.number) (omega (arith, below))) ∙ more.1),
+      )
 
 pub light_sums : LightSumsHaveValues
 unfolding sum_value

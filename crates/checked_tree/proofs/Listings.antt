@@ -95,9 +95,9 @@ over_buf body = record {
 -- int f(void) { int x; x = g.buf[0]; x = x + g.buf[0]; return x; }
 abbrev pub in_two : CheckedFn
 in_two = over_buf (
-  T.Assign 3 0 I32 (first_of (1 ∷ 2 ∷ 3 ∷ [])) []
-  ∷ T.Assign 3 0 I32 (V.Binary arithmetic_op.Add I32 (V.Local 0) (first_of (4 ∷ 5 ∷ 6 ∷ [])) []) [] ∷ returned 0 ∷ []
-)
+    T.Assign 3 0 I32 (first_of (1 ∷ 2 ∷ 3 ∷ [])) []
+    ∷ T.Assign 3 0 I32 (V.Binary arithmetic_op.Add I32 (V.Local 0) (first_of (4 ∷ 5 ∷ 6 ∷ [])) []) [] ∷ returned 0 ∷ []
+    )
 
 -- the same in one statement: x = g.buf[0] + g.buf[0];
 abbrev pub in_one : CheckedFn

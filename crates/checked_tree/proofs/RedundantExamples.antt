@@ -82,8 +82,8 @@ unfolding paths_to
 follows_in_one =
     subst (λ flows. All (λ flow. All (HasEqual in_one fourth) (paths_to 4 flow)) flows) (sym flows_in_one)
     (All-cons (λ flow. All (HasEqual in_one fourth) (paths_to 4 flow)) (tests_then (1 ∷ 2 ∷ 3 ∷ 4 ∷ 5 ∷ 6 ∷ []) assigned) (Ends ∷ [])
-      (All-cons (HasEqual in_one fourth) (Tests 1 ∷ Tests 2 ∷ Tests 3 ∷ []) [] path_in_one (All-nil (HasEqual in_one fourth)))
-      (All-cons (λ flow. All (HasEqual in_one fourth) (paths_to 4 flow)) Ends [] (All-nil (HasEqual in_one fourth)) (All-nil (λ flow. All (HasEqual in_one fourth) (paths_to 4 flow)))))
+    (All-cons (HasEqual in_one fourth) (Tests 1 ∷ Tests 2 ∷ Tests 3 ∷ []) [] path_in_one (All-nil (HasEqual in_one fourth)))
+    (All-cons (λ flow. All (HasEqual in_one fourth) (paths_to 4 flow)) Ends [] (All-nil (HasEqual in_one fourth)) (All-nil (λ flow. All (HasEqual in_one fourth) (paths_to 4 flow)))))
 
 fourth_in_one : Redundant in_one 4
 fourth_in_one = inr (inl follows_in_one)
@@ -97,9 +97,9 @@ not_behind_equal : FollowsEqual in_two 4 fourth → ⊥
 unfolding paths_to
 not_behind_equal h =
     let at : All (λ flow. All (HasEqual in_two fourth) (paths_to 4 flow)) (tests_then (1 ∷ 2 ∷ 3 ∷ []) assigned ∷ tests_then (4 ∷ 5 ∷ 6 ∷ []) assigned ∷ Ends ∷ []) =
-        subst (λ flows. All (λ flow. All (HasEqual in_two fourth) (paths_to 4 flow)) flows) flows_in_two h in
+    subst (λ flows. All (λ flow. All (HasEqual in_two fourth) (paths_to 4 flow)) flows) flows_in_two h in
     let in_second : All (HasEqual in_two fourth) ([] ∷ []) =
-        All-contains (λ flow. All (HasEqual in_two fourth) (paths_to 4 flow)) (tests_then (1 ∷ 2 ∷ 3 ∷ []) assigned ∷ tests_then (4 ∷ 5 ∷ 6 ∷ []) assigned ∷ Ends ∷ []) (tests_then (4 ∷ 5 ∷ 6 ∷ []) assigned) at (1, omega arith, refl) in
+    All-contains (λ flow. All (HasEqual in_two fourth) (paths_to 4 flow)) (tests_then (1 ∷ 2 ∷ 3 ∷ []) assigned ∷ tests_then (4 ∷ 5 ∷ 6 ∷ []) assigned ∷ Ends ∷ []) (tests_then (4 ∷ 5 ∷ 6 ∷ []) assigned) at (1, omega arith, refl) in
     none_before (All-contains (HasEqual in_two fourth) ([] ∷ []) [] in_second (0, omega arith, refl))
 
 reads : is_over_locals in_two (comparable (record { left = form ((negsuc 0, 0) ∷ []) (pos 1); guard = None })) ≡ false

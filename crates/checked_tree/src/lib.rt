@@ -31,7 +31,8 @@ pub use kernel_table::{
     kernel_row,
 };
 pub use laws::{
-    light_sums_have_values, redundant_checks_hold, values_have_32_bits, what_is_known_moves_with_control, what_is_known_survives_a_call,
+    light_sums_have_values, redundant_checks_hold, values_have_32_bits,
+    what_is_known_moves_with_control, what_is_known_survives_a_call,
     what_is_told_is_the_evaluation,
 };
 pub use numbers::{converted, has_all, low_bits};

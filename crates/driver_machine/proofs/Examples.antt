@@ -1,12 +1,9 @@
--- The definitions tried: `while (p) return i;` with `return p;` behind it, and numbers at their limits.
-use Rattle.std.proofs.Common.{◌≡◌, ℕ, ◌-◌, ◌^◌, true, false, List, [], ◌∷◌, ◌++◌, pos, negsuc, Some, Ok, Err, refl}
+-- The definitions tried: `while (p) return i;` with `return p;` behind it.
+use Rattle.std.proofs.Common.{◌≡◌, ℕ, true, false, List, [], ◌∷◌, ◌++◌, Some}
 use Rattle.checked_tree.specs.declared.expressions.CheckedExpr.TheVariants as V
 use Rattle.checked_tree.specs.declared.shapes.Scalar.TheVariants.{I32}
 use Rattle.checked_tree.specs.declared.statements.CheckedStmt.{CheckedStmt}
 use Rattle.checked_tree.specs.declared.statements.CheckedStmt.TheVariants as T
-use Rattle.checked_tree.specs.declared.stops.Stop.TheVariants.{Wild}
-use Rattle.checked_tree.specs.Numbers.{address, limited}
-use Rattle.checked_tree.specs.Outcome.{Got}
 use Rattle.checked_tree.proofs.Equations.{at_parts, at_statements}
 use Rattle.driver_machine.specs.declared.position.Place.{Place}
 use Rattle.driver_machine.specs.Frames.{is_roomy, are_roomy}
@@ -53,20 +50,3 @@ one_deep = simp at_parts
 has_rooms : are_roomy body ≡ true
 unfolding is_roomy body inner returned
 has_rooms = simp at_parts
-
--- the last address, and what is none
-the_last : address (pos (2 ^ 32 - 1)) ≡ Ok (pos 4294967295)
-the_last = refl
-
-past_it : ◌≡◌ {A = Got} (address (pos (2 ^ 32))) (Err Wild)
-past_it = refl
-
-before_it : ◌≡◌ {A = Got} (address (negsuc 0)) (Err Wild)
-before_it = refl
-
--- the last sum, and what is past the limit
-the_last_sum : limited (pos (2 ^ 126 - 1)) ≡ Ok (pos (2 ^ 126 - 1))
-the_last_sum = refl
-
-past_the_limit : ◌≡◌ {A = Got} (limited (negsuc (2 ^ 126 - 1))) (Err Wild)
-past_the_limit = refl

@@ -6,3 +6,4 @@ pub mod Depths
 pub mod Entering
 pub mod Roomy
 pub mod Examples
+pub mod Converting

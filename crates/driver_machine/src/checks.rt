@@ -114,7 +114,10 @@ fn test(s: &State<'_>, f: &CheckedFn, check: Option<&Check>) -> Result<(), Stop>
 fn check_of(f: &CheckedFn, id: usize) -> Option<&Check>
     ensures { option_copied result ≡ checks.check_of f.now id }
 {
-    f.checks.get(id.saturating_sub(1))
+    if id == 0 {
+        return None;
+    }
+    f.checks.get(id - 1)
 }
 
 /// The tests of checks, by their numbers, in order.

@@ -10,6 +10,7 @@ mod frame;
 mod memory;
 mod numbers;
 mod operands;
+mod parameters;
 mod places;
 mod position;
 mod state;
@@ -23,12 +24,11 @@ pub use checks::test_all;
 pub use evaluation::eval;
 pub use frame::Frame;
 pub use memory::{clear, is_clear, load, store};
+pub use numbers::{arithmetic, comparison, unary};
 pub use operands::{argument, bounded, operand, optional_argument, optional_operand, taken};
+pub use parameters::converted_arguments;
 pub use position::{Path, Place, Position};
 pub use state::State;
 pub use sums::sum_value;
 pub use turn::Turn;
 pub use unchecked::peek;
-
-#[cfg(test)]
-mod tests;

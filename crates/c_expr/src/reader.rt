@@ -14,7 +14,11 @@ use std::alloc::Global;
 /// The longest expression that begins at the word `at` of a divided text, and the place after it.
 ///
 /// Refused with `NoExpr(at)` exactly where no expression begins there, and with `Memory` where memory is wanting.
-pub fn read_expr(alloc: Global, words: &[Token], at: usize) -> Result<(Expr, usize), ExpressionRefusal>
+pub fn read_expr(
+    alloc: Global,
+    words: &[Token],
+    at: usize,
+) -> Result<(Expr, usize), ExpressionRefusal>
     requires place { at ≤ length words.now }
     requires divided { (text : Text) × IsDivision text words.now }
     ensures found { IfOk result (λ a. IsExpr (slice_range words.now at a.1) a.0) }

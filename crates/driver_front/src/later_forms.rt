@@ -4,8 +4,7 @@ ghost use Rattle.driver_front.specs.Later as spec;
 
 use crate::later_items::is_later_type;
 use c_tree::{Action, Body, Expr, Stmt};
-use checked_tree::KernelName;
-use checked_tree::kernel_named;
+use checked_tree::{KernelName, kernel_named};
 use sd_base::Name;
 
 /// Whether an expression has a string or the word `nullterm`.

@@ -13,7 +13,7 @@ pub use laws::{
     a_refused_unit_has_its_reason, a_short_unit_has_a_table_within, a_simple_statement_has_numbers,
     an_expression_has_numbers, light_checks_have_numbers,
 };
+pub use structs::structs_are_laid_out_again;
 pub use sums::{
     a_pointers_bounds_reach_no_limit, a_small_form_reaches_no_limit, derived_checks_are_small,
 };
-pub use structs::structs_are_laid_out_again;

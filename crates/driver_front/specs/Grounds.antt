@@ -14,10 +14,12 @@ use Rattle.driver_front.specs.Later.{first_later}
 use Rattle.driver_front.specs.Parts.{type_refusal}
 use Rattle.driver_front.specs.Verdict.{IsUnread, fault_refusal}
 
--- The text is not read; or an item of it waits, and this is the line of the first; or a declaration is refused; or, of what is laid out, a head, a parameter, a
--- local, a prototype, or a simple statement or a condition that no rule derives, on its own line, or the slots of a function.
+-- The text is not read; or an item of it waits, and this is the line of the first; or a declaration is refused; or, of what is laid out,
+-- a head, a parameter, a local, a prototype, or a simple statement or a condition that no rule derives, on its own line, or the slots of
+-- a function.
 pub data HasGround (t : Text) : DriverRefusal → Type 0 where
   not_read : {r : DriverRefusal} → IsUnread t r → HasGround t r
   later_item : {u : TextUnit} {n : ℕ} → Reads t u → first_later u.items ≡ Some n → HasGround t (refusal.Later n)
   declaration : {u : TextUnit} {e : TypeRefusal} → Reads t u → first_later u.items ≡ None → layout u ≡ Err e → HasGround t (type_refusal e)
-  rule : {u : TextUnit} {table : Table} {e : Fault} → Reads t u → first_later u.items ≡ None → layout u ≡ Ok table → IsRuleFault u table e → HasGround t (fault_refusal e)
+  rule : {u : TextUnit} {table : Table} {e : Fault} → Reads t u → first_later u.items ≡ None → layout u ≡ Ok table
+      → IsRuleFault u table e → HasGround t (fault_refusal e)

@@ -19,4 +19,5 @@ pub record HandsOver (ctx : Context) (e : Expr) (h : Handed) : Type 0 where
   pub found : Derived
   pub asked : List Asked
   pub derives : derive ctx e [] ≡ Some (found, asked)
-  pub hands : ((key : Element) × (nullterm : Bool) × (handed ctx key nullterm found ≡ Some h)) ⊎ (and_then (value_of ctx found) freed_value ≡ Some h)
+  pub hands : ((key : Element) × (nullterm : Bool) × (handed ctx key nullterm found ≡ Some h))
+      ⊎ (and_then (value_of ctx found) freed_value ≡ Some h)

@@ -1,5 +1,5 @@
--- Sums that stay below the machine's limit: which forms and sums are so small that no numbers of 32 bits take them there, and what they come to where nothing is
--- limited.
+-- Sums that stay below the machine's limit: which forms and sums are so small that no numbers of 32 bits take them there, and what they
+-- come to where nothing is limited.
 use Rattle.std.specs.Prelude.{◌≡◌, ℕ, ◌<◌, ◌^◌, IsTrue, List, [], ◌∷◌, ℤ, pos, ◌+ℤ◌, ◌*ℤ◌, unsigned_abs, Option, Some, None, Ok, slice_get}
 use Rattle.dep_expr.specs.Linear.{LinearForm}
 use Rattle.dep_expr.specs.Weight.{weight}

@@ -3,6 +3,7 @@ ghost use Rattle.std.specs.Prelude.{◌≡◌, ◌<◌, ◌^◌, ◌++◌, ◌�
 ghost use Rattle.c_tree.specs.declared.items.Item.{Item as Spec};
 ghost use Rattle.deputy_rules.specs.Functions as spec;
 ghost use Rattle.deputy_rules.specs.Heads as heads;
+ghost use Rattle.deputy_types.specs.UnitLayout as layout;
 ghost use Rattle.rules_stmt.specs.Units.{AreFewItems};
 
 use crate::declared::signature_of;
@@ -51,7 +52,7 @@ fn with_item(
 ) -> Result<Functions, Memory>
     requires { length functions < 2 ^ 32 }
     ensures { IfOk result (λ more. (rest : List Spec) →
-        more ++ map (heads.signature_of table.now) (spec.functions_of rest) ≡ functions ++ map (heads.signature_of table.now) (spec.functions_of (item.now ∷ rest))) }
+        more ++ map (heads.signature_of table.now) (layout.functions_of rest) ≡ functions ++ map (heads.signature_of table.now) (layout.functions_of (item.now ∷ rest))) }
 {
     match item {
         Item::Struct(_) => Ok(functions),
@@ -68,7 +69,7 @@ fn with_item(
 /// What calls see of the functions of a text with bodies.
 fn functions_of(alloc: Global, table: &TypeTable, items: &[Item]) -> Result<Functions, Memory>
     requires { AreFewItems table.now items.now }
-    ensures { IfOk result (λ functions. functions ≡ map (heads.signature_of table.now) (spec.functions_of items.now)) }
+    ensures { IfOk result (λ functions. functions ≡ map (heads.signature_of table.now) (layout.functions_of items.now)) }
 {
     let mut functions = Functions::new(alloc);
     for item in items {

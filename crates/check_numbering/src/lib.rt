@@ -9,7 +9,7 @@ mod numbering;
 mod refusal;
 
 pub use atoms::Atoms;
-pub use build::{Build, check_expr};
+pub use build::Build;
 pub use numbering::number_checks;
 pub use refusal::{RuleRefusal, at_line};
 

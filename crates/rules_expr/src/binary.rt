@@ -9,20 +9,16 @@ ghost use Rattle.deputy_rules.specs.Deriving as asking;
 ghost use Rattle.deputy_rules.specs.Deriving.{Derives, Yields};
 ghost use Rattle.deputy_rules.specs.Operators as spec;
 ghost use Rattle.deputy_rules.specs.Sums as sums;
-ghost use Rattle.deputy_types.specs.Types as types;
 
-use crate::Context;
-use crate::asking::ask;
-use crate::forms::{binary_form, compare_form, logical_form, null_form};
-use crate::ids::{Ids, one};
-use crate::integers::{common, computed, promoted};
-use crate::pointers::{is_written, moved, text_sum};
-use crate::sums::side;
-use crate::values::value_of;
+use crate::pointers::{moved, text_sum};
 use c_tree::Binary;
 use checked_tree::{Arithmetic, CheckedExpr, Comparison, Logic, PointerSum, Scalar};
 use deputy_rules::{Asked, AskedCond, Derived, DerivingRefusal, Family, Pointed, Value, Whole};
-use deputy_types::Element;
+use rules_types::{common, promoted, same_element, same_truth};
+use rules_values::{
+    Context, Ids, ask, binary_form, compare_form, computed, is_written, logical_form, null_form,
+    one, side, value_of,
+};
 use sd_base::CheckKind;
 use sqlite_items::{Boxed, Items};
 use std::alloc::{AllocError, Global};
@@ -315,20 +311,6 @@ fn on_integer_and_pointer(
         Family::Logic(op) => Ok(joined(alloc, op, integer.form, pointer.form)?),
         _ => Err(DerivingRefusal::NoRule),
     }
-}
-
-/// Whether two types of elements are equal.
-pub fn same_element(a: Element, b: Element) -> bool
-    ensures { result ≡ types.same_element a b }
-{
-    a == b
-}
-
-/// Whether two truth values are equal.
-pub fn same_truth(a: bool, b: bool) -> bool
-    ensures { result ≡ spec.same_truth a b }
-{
-    if a { b } else { !b }
 }
 
 /// Whether two pointers have equal elements, and are both nullterm or neither.

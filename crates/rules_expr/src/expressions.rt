@@ -3,16 +3,16 @@ ghost use Rattle.std.specs.Prelude.{◌≡◌};
 ghost use Rattle.deputy_rules.specs.Deriving.{Derives, Yields};
 ghost use Rattle.deputy_rules.specs.Expressions as spec;
 
-use crate::Context;
 use crate::binary::binary;
-use crate::integers::{cast, character, number, size_constant, unary};
-use crate::members::dotted;
 use crate::places::{followed, named};
 use crate::pointers::{indexed_by, string};
-use crate::values::{integer_of, pointer_of, value_of};
+use crate::unary::unary;
 use c_tree::{Expr, TypeName};
 use checked_tree::CheckedExpr;
 use deputy_rules::{Asked, Derived, DerivingRefusal, Value};
+use rules_values::{
+    Context, cast, character, dotted, integer_of, number, pointer_of, size_constant, value_of,
+};
 use sd_base::Name;
 use sqlite_items::{Boxed, Items};
 use std::alloc::Global;

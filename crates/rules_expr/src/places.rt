@@ -9,16 +9,16 @@ ghost use Rattle.deputy_rules.specs.Deriving as asking;
 ghost use Rattle.deputy_rules.specs.Deriving.{Derives, Yields};
 ghost use Rattle.deputy_rules.specs.Places as spec;
 
-use crate::Context;
-use crate::asking::ask;
-use crate::forms::{block_form, element_form, through_form};
-use crate::ids::{Ids, joined, one, with_id};
-use crate::sums::{beyond, constant, side, times, with_part};
 use checked_tree::{ImageBlock, Scalar, Sum, copied_sum};
 use deputy_rules::{
     ArrayPlace, Asked, AskedCond, Derived, DerivingRefusal, Place, Pointed, Source, Whole,
 };
 use deputy_types::{Element, GlobalPlace};
+use rules_types::is_unsigned;
+use rules_values::{
+    Context, Ids, ask, beyond, block_form, constant, element_form, joined, one, side, through_form,
+    times, with_id, with_part,
+};
 use sd_base::{CheckKind, Name};
 use sqlite_items::Items;
 use std::alloc::{AllocError, Global};
@@ -190,16 +190,6 @@ pub fn followed(
         through_text(alloc, ctx, pointer, asked)
     } else {
         through(alloc, ctx, pointer, asked)
-    }
-}
-
-/// Whether a type is `unsigned`.
-pub fn is_unsigned(scalar: Scalar) -> bool
-    ensures { result ≡ spec.is_unsigned scalar }
-{
-    match scalar {
-        Scalar::U32 => true,
-        _ => false,
     }
 }
 

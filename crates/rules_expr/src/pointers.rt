@@ -8,19 +8,16 @@ ghost use Rattle.deputy_rules.specs.Deriving as asking;
 ghost use Rattle.deputy_rules.specs.Deriving.{Derives, Yields};
 ghost use Rattle.deputy_rules.specs.Pointers as spec;
 
-use crate::Context;
-use crate::asking::ask;
-use crate::forms::{address_form, block_form, moved_form};
-use crate::ids::{Ids, joined, one};
-use crate::places::{
-    indexed, is_unsigned, moved_sum, not_above, not_below, not_null, through_text,
-};
-use crate::sums::{beyond, constant};
+use crate::places::{indexed, moved_sum, not_above, not_below, not_null, through_text};
 use checked_tree::{CheckedExpr, ImageBlock, Member, PointerSum, Scalar, Sum, copied_sum};
 use deputy_rules::{
     Asked, AskedCond, Derived, DerivingRefusal, Place, Pointed, Source, Value, Whole, Written,
 };
 use deputy_types::{Element, has_names};
+use rules_types::is_unsigned;
+use rules_values::{
+    Context, Ids, address_form, ask, beyond, block_form, constant, joined, moved_form, one,
+};
 use sd_base::CheckKind;
 use sqlite_items::{Boxed, Items};
 use std::alloc::{AllocError, Global};
@@ -277,17 +274,6 @@ pub fn moved(
     let size = ctx.size_of(from.elem);
     let at = moved_sum(alloc, &from.at, &by, step_size(how, size))?;
     moved_to(alloc, ctx, how, from, by, size, at, asked)
-}
-
-/// Whether an integer expression is the number n, written as such and without suffix.
-pub fn is_written(n: u32, written: Written) -> bool
-    ensures { result ≡ spec.is_written n written }
-{
-    match written {
-        Written::Number { value, plain } => plain && value == n,
-        Written::Constant(_) => false,
-        Written::Other => false,
-    }
 }
 
 /// Term: the byte at the address is not 0, where it is wanted.

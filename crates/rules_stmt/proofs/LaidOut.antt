@@ -10,7 +10,7 @@ use Rattle.layout_laws.specs.StructTable.{struct_items}
 use Rattle.layout_laws.proofs.LimitLaws.{keeps_limits}
 use Rattle.layout_laws.proofs.MemberNumbers.{members_found}
 use Rattle.layout_laws.proofs.StructsDeclared.{structs_declared}
-use Rattle.rules_stmt.specs.Units.{AreFewItems}
+use Rattle.rules_heads.specs.AreFewItems.{AreFewItems}
 
 -- a number is that of a struct that the text declares, or of none, which has no members
 few_members : (u : TextUnit) (t : Table) → layout u ≡ Ok t → (s : ℕ) → length (members_of t s) < 2 ^ 32

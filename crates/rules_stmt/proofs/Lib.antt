@@ -1,9 +1,7 @@
 pub mod FunctionSteps
-pub mod HeadPlaces
 pub mod ItemSteps
 pub mod LaidOut
 pub mod Leftovers
-pub mod Numbers
 pub mod ShortItems
 pub mod SlotCounts
 pub mod StatementEquations

@@ -1,4 +1,1 @@
-pub mod AreFewSlots
-pub mod Names
-pub mod Places
 pub mod Units

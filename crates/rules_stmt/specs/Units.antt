@@ -1,22 +1,15 @@
--- What the rules take for granted of a text whose declarations are laid out, and the steps over its items.
-use Rattle.std.specs.Prelude.{◌≡◌, ◌≢◌, ℕ, ◌<◌, ◌^◌, List, ◌∷◌, length, Result, Ok, Err}
+-- What checking a text ensures, and the steps over its items.
+use Rattle.std.specs.Prelude.{◌≡◌, ◌≢◌, List, ◌∷◌, Result, Ok, Err}
 use Rattle.c_tree.specs.declared.items.Item.{Item}
 use Rattle.c_tree.specs.declared.items.Item.TheVariants as item
 use Rattle.c_tree.specs.ShortUnit.{IsShortFunction}
 use Rattle.checked_tree.specs.declared.units.CheckedFn.{CheckedFn}
 use Rattle.deputy_rules.specs.Checking.{Fault}
 use Rattle.deputy_rules.specs.Functions.{check_items}
-use Rattle.deputy_types.specs.UnitLayout.{functions_of}
 use Rattle.deputy_rules.specs.Heads.{SeenText}
-use Rattle.deputy_types.specs.Table.{Table, members_of}
 use Rattle.check_numbering.specs.declared.refusal.RuleRefusal.{RuleRefusal}
 use Rattle.check_numbering.specs.declared.refusal.RuleRefusal.TheVariants as rule
 use Rattle.check_numbering.specs.Outcome.{fault_in}
-
--- Each struct has less than 2^32 members, and there are less than 2^32 functions with bodies.
-pub record AreFewItems (table : Table) (items : List Item) : Type 0 where
-  pub members_fit : (s : ℕ) → length (members_of table s) < 2 ^ 32
-  pub functions_fit : length (functions_of items) < 2 ^ 32
 
 -- an item is short, where it is a function
 abbrev pub IsShortItem : Item → Type 0

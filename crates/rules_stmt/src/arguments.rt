@@ -5,12 +5,12 @@ ghost use Rattle.deputy_rules.specs.Deriving.{Derives, Yields};
 ghost use Rattle.deputy_types.specs.Options.{and_then};
 ghost use Rattle.checked_tree.specs.declared.shapes.Shape.TheVariants as shaped;
 
-use crate::coerce::coerce_to;
-use crate::convert::{converted_side, handed};
 use c_tree::Expr;
 use checked_tree::{Argument, Bounds, Scalar, Shape, Sum, copied_part, copied_sum};
 use deputy_rules::{Asked, Derived, DerivingRefusal, Handed, Names, Naming, Passed};
-use rules_expr::{Context, Ids, boxed_copy, derive, integer_of, is_nullterm, sum_of};
+use rules_assign::{coerce_to, converted_side, handed};
+use rules_expr::derive;
+use rules_values::{Context, Ids, boxed_copy, integer_of, is_nullterm, sum_of};
 use sqlite_items::Items;
 use std::alloc::{AllocError, Global};
 

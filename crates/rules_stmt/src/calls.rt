@@ -5,12 +5,12 @@ ghost use Rattle.deputy_rules.specs.Calls as spec;
 ghost use Rattle.deputy_rules.specs.Deriving.{Derives, bind, pure};
 
 use crate::arguments::{coerce_each, of_arguments, pass_each, passed_arguments};
-use crate::functions::Functions;
-use crate::targets::call_target;
 use c_tree::Expr;
 use checked_tree::{CheckedStmt, Target};
 use deputy_rules::{Asked, DerivingRefusal, Passed, Signature};
-use rules_expr::Context;
+use rules_assign::call_target;
+use rules_heads::Functions;
+use rules_values::Context;
 use sd_base::Name;
 use sqlite_items::Items;
 use std::alloc::Global;

@@ -5,10 +5,10 @@ ghost use Rattle.checked_tree.specs.declared.shapes.Shape.TheVariants as shaped;
 ghost use Rattle.deputy_rules.specs.Calls as spec;
 ghost use Rattle.deputy_types.specs.Options.{and_then};
 
-use crate::functions::Functions;
 use c_tree::Expr;
 use checked_tree::{Scalar, Shape};
 use deputy_rules::{Returned, Signature};
+use rules_heads::Functions;
 use sd_base::Name;
 
 /// The name that an expression is, if it is one, in brackets or not.

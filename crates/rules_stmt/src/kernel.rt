@@ -11,10 +11,7 @@ ghost use Rattle.deputy_types.specs.Options.{and_then};
 ghost use Rattle.deputy_rules.specs.Values.{value_of as value_in};
 
 use crate::calls::call_named;
-use crate::convert::{handed, handed_over, null, null_number};
-use crate::functions::Functions;
 use crate::handlers::handler;
-use crate::targets::{automatic_target, call_target, free_slot};
 use c_tree::{Expr, TypeName};
 use checked_tree::{
     Argument, CheckedStmt, KernelName, KernelResult, ParameterKind, PointerOperand, Scalar, Shape,
@@ -24,7 +21,11 @@ use deputy_rules::{
     Asked, Derived, DerivingRefusal, Handed, KernelArguments, Pointed, Returned, Value,
 };
 use deputy_types::Element;
-use rules_expr::{Context, derive, integer_of, promoted, value_of};
+use rules_assign::{call_target, handed, handed_over, kalloc_target, null, null_number};
+use rules_expr::derive;
+use rules_heads::Functions;
+use rules_types::promoted;
+use rules_values::{Context, integer_of, value_of};
 use sd_base::Name;
 use sqlite_items::Items;
 use std::alloc::Global;
@@ -244,16 +245,6 @@ pub(crate) fn call(
     match kernel_named(name) {
         Some(found) => call_kernel(alloc, ctx, functions, found, x, args, asked),
         None => call_named(alloc, ctx, functions, name, x, args, asked),
-    }
-}
-
-/// The target of `x = kalloc(T, e)`, where T is the element with this number.
-fn kalloc_target(ctx: &Context<'_>, x: &Name, elem: u32) -> Option<Target>
-    ensures { result ≡ spec.kalloc_target ctx.now x.now elem }
-{
-    match free_slot(ctx, x) {
-        Some(slot) => automatic_target(ctx, elem, slot),
-        None => None,
     }
 }
 

@@ -1,28 +1,15 @@
-//! The rules of statements: what each statement of a driver text derives, and the run-time checks that it asks for.
+//! The rules of statements: what each statement of a driver text derives, and the run-time checks that it asks for, numbered; with them whole texts.
 #![tactic(auto)]
 
 mod actions;
-mod agreement;
+mod alone;
 mod arguments;
 mod assign;
 mod calls;
-mod changes;
-mod coerce;
-mod convert;
-mod declared;
-mod first_heads;
-mod functions;
 mod handlers;
-mod head_parameters;
-mod heads;
 mod kernel;
-mod results;
-mod shape_copies;
 mod stmts;
-mod store;
-mod tags;
-mod targets;
-mod texts;
 mod unit;
 
+pub use alone::check_expr;
 pub use unit::check_unit;

@@ -4,7 +4,7 @@ ghost use Rattle.checked_tree.specs.declared.statements.CheckedStmt.TheVariants 
 ghost use Rattle.deputy_rules.specs.Checking.{in_turn};
 ghost use Rattle.deputy_rules.specs.Deriving.{Derives};
 ghost use Rattle.deputy_rules.specs.Statements as spec;
-ghost use Rattle.rules_stmt.specs.AreFewSlots.{AreFewSlots};
+ghost use Rattle.rules_assign.specs.AreFewSlots.{AreFewSlots};
 ghost use Rattle.check_numbering.specs.Building.{numbers_of};
 ghost use Rattle.check_numbering.specs.Outcome.{Checks};
 ghost use Rattle.check_numbering.specs.Placed.{placed};
@@ -14,7 +14,7 @@ use c_tree::{Action, Body, Expr, Simple, Stmt};
 use check_numbering::{Build, RuleRefusal, at_line, number_checks};
 use checked_tree::{CheckedExpr, CheckedStmt};
 use deputy_rules::{Asked, DerivingRefusal};
-use rules_expr::Context;
+use rules_values::Context;
 use sqlite_items::{Boxed, Items};
 use std::alloc::Global;
 

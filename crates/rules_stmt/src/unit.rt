@@ -5,23 +5,23 @@ ghost use Rattle.c_tree.specs.ShortUnit.{IsShortFunction, IsShortUnit};
 ghost use Rattle.deputy_rules.specs.Functions as spec;
 ghost use Rattle.deputy_rules.specs.Heads as declared;
 ghost use Rattle.deputy_types.specs.UnitLayout.{layout};
-ghost use Rattle.rules_stmt.specs.AreFewSlots.{AreFewSlots};
-ghost use Rattle.rules_stmt.specs.Units.{IsChecked, AreFewItems, IsShortItem, StepsOver};
+ghost use Rattle.rules_assign.specs.AreFewSlots.{AreFewSlots};
+ghost use Rattle.rules_heads.specs.AreFewItems.{AreFewItems};
+ghost use Rattle.rules_stmt.specs.Units.{IsChecked, IsShortItem, StepsOver};
 
 use crate::actions::Home;
-use crate::declared::{Shapes, parameter_shapes, result_of, slot_shapes};
-use crate::head_parameters::wrong_in_head;
-use crate::heads::{function_stands, head_stands, wrong_declaration};
-use crate::results::{result_scalar, shapes_of};
 use crate::stmts::check_each;
-use crate::texts::SeenText;
 use c_tree::{Function, Head, Item, LimitKind, Unit};
 use check_numbering::{Build, RuleRefusal};
 use checked_tree::{CheckedFn, CheckedUnit};
 use dep_infer::auto_bounds;
 use deputy_rules::Returned;
 use deputy_types::TypeTable;
-use rules_expr::Context;
+use rules_heads::{
+    SeenText, Shapes, function_stands, head_stands, parameter_shapes, result_of, result_scalar,
+    shapes_of, slot_shapes, wrong_declaration, wrong_in_head,
+};
+use rules_values::Context;
 use sd_base::Memory;
 use sd_base::limits::LOCALS;
 use sqlite_items::Items;

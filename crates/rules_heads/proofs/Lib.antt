@@ -1,0 +1,2 @@
+pub mod HeadPlaces
+pub mod Numbers

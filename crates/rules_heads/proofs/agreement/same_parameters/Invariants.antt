@@ -1,0 +1,6 @@
+use Rattle.std.proofs.Common.{◌≡◌, drop}
+use Rattle.deputy_rules.specs.Agreement as spec
+use Rattle.rules_heads.proofs.agreement.same_parameters.Given as goal
+
+abbrev pub invariant-loop-a : goal.invariant-loop-a
+invariant-loop-a l = spec.same_parameters l.structs l.ps l.qs (drop l.a-index l.params) l.rest ≡ spec.same_parameters l.structs l.ps l.qs l.params l.others

@@ -1,0 +1,3 @@
+pub mod AreFewItems
+pub mod Names
+pub mod Places

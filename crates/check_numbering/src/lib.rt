@@ -12,6 +12,3 @@ pub use atoms::Atoms;
 pub use build::Build;
 pub use numbering::number_checks;
 pub use refusal::{RuleRefusal, at_line};
-
-#[cfg(test)]
-mod tests;

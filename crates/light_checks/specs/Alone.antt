@@ -1,4 +1,4 @@
--- Where an expression may be checked by itself (`check_expr` of check_numbering): in a function of a short unit, whose declarations stand, with the unit's table and the
+-- Where an expression may be checked by itself (`check_expr` of rules_stmt): in a function of a short unit, whose declarations stand, with the unit's table and the
 -- function's slots.
 use Rattle.std.specs.Prelude.{◌≡◌, Ok, Contains}
 use Rattle.c_tree.specs.declared.items.Function.{Function}

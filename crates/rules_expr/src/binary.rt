@@ -1,14 +1,15 @@
 //! The operators between two operands, on integers and pointers, each with its checks. The only refusal of a function that answers an `AllocError` is want
 //! of memory.
-ghost use Rattle.std.specs.Prelude.{◌≡◌, [], ◌∷◌, IfOk};
+ghost use Rattle.std.specs.Prelude.{◌≡◌, [], ◌∷◌, Some, None, IfOk};
 ghost use Rattle.sd_base.specs.declared.kinds.CheckKind.TheVariants as kind;
 ghost use Rattle.checked_tree.specs.declared.expressions.CheckedExpr.TheVariants as form;
 ghost use Rattle.deputy_rules.specs.declared.asked.AskedCond.TheVariants as cond;
 ghost use Rattle.deputy_rules.specs.declared.derived.Value.TheVariants as value;
 ghost use Rattle.deputy_rules.specs.Deriving as asking;
-ghost use Rattle.deputy_rules.specs.Deriving.{Derives, Yields};
+ghost use Rattle.deputy_rules.specs.Deriving.{Derives, Yields, bind, lift};
 ghost use Rattle.deputy_rules.specs.Operators as spec;
 ghost use Rattle.deputy_rules.specs.Sums as sums;
+ghost use Rattle.deputy_rules.specs.Values.{value_of as value_in};
 
 use crate::pointers::{moved, text_sum};
 use c_tree::Binary;
@@ -51,6 +52,20 @@ fn family_of(op: Binary) -> Family
         Binary::Divide => Family::Divide(Arithmetic::Divide),
         Binary::Remainder => Family::Divide(Arithmetic::Remainder),
     }
+}
+
+/// The form of an integer operand.
+fn integer_form(of: Whole) -> Form
+    ensures { result ≡ of.form }
+{
+    of.form
+}
+
+/// The form of a pointer operand.
+fn pointer_form(of: Pointed) -> Form
+    ensures { result ≡ of.form }
+{
+    of.form
 }
 
 /// `- + * & | ^` on integers: both sides converted to their common type.
@@ -129,8 +144,8 @@ fn compared(
 }
 
 /// `&&` and `||`, on integers and pointers with these forms: an `int`.
-fn joined(alloc: Global, op: Logic, left: Form, right: Form) -> Result<Derived, AllocError>
-    ensures { IfOk result (λ d. d ≡ spec.joined op left right) }
+fn joined(alloc: Global, op: Logic, left: Form, right: Form) -> Result<Derived, DerivingRefusal>
+    ensures { Yields (Some (spec.joined op left right)) result }
 {
     let form = logical_form(alloc, op, left, right)?;
     Ok(computed(form, Scalar::I32))
@@ -181,7 +196,7 @@ fn on_integers(
         Family::Divide(op) => divided(alloc, ctx, op, left, right, asked),
         Family::Order(op) => Ok(integers_compared(alloc, op, left, right)?),
         Family::Equality(op) => Ok(integers_compared(alloc, op, left, right)?),
-        Family::Logic(op) => Ok(joined(alloc, op, left.form, right.form)?),
+        Family::Logic(op) => joined(alloc, op, integer_form(left), integer_form(right)),
     }
 }
 
@@ -241,9 +256,9 @@ fn compared_with_zero(
     alloc: Global,
     op: Comparison,
     pointer: Pointed,
-    zero: &Whole,
+    zero: Whole,
 ) -> Result<Derived, DerivingRefusal>
-    ensures { Yields (spec.compared_with_zero op pointer zero.now) result }
+    ensures { Yields (spec.compared_with_zero op pointer zero) result }
 {
     if !is_written(0, zero.written) {
         return Err(DerivingRefusal::NoRule);
@@ -255,15 +270,22 @@ fn compared_with_zero(
 fn zero_compared(
     alloc: Global,
     op: Comparison,
-    zero: &Whole,
+    zero: Whole,
     pointer: Pointed,
 ) -> Result<Derived, DerivingRefusal>
-    ensures { Yields (spec.zero_compared op zero.now pointer) result }
+    ensures { Yields (spec.zero_compared op zero pointer) result }
 {
     if !is_written(0, zero.written) {
         return Err(DerivingRefusal::NoRule);
     }
     Ok(null_with(alloc, op, pointer)?)
+}
+
+/// No rule for a pointer and an integer.
+fn no_rule(_pointer: Pointed, _integer: Whole) -> Result<Derived, DerivingRefusal>
+    ensures { Yields None result }
+{
+    Err(DerivingRefusal::NoRule)
 }
 
 /// A pointer and an integer.
@@ -284,9 +306,9 @@ fn on_pointer_and_integer(
             let how = PointerSum::PointerMinus;
             moved_unless_text(alloc, ctx, how, pointer, integer, asked)
         }
-        Family::Equality(op) => compared_with_zero(alloc, op, pointer, &integer),
-        Family::Logic(op) => Ok(joined(alloc, op, pointer.form, integer.form)?),
-        _ => Err(DerivingRefusal::NoRule),
+        Family::Equality(op) => compared_with_zero(alloc, op, pointer, integer),
+        Family::Logic(op) => joined(alloc, op, pointer_form(pointer), integer_form(integer)),
+        _ => no_rule(pointer, integer),
     }
 }
 
@@ -307,9 +329,9 @@ fn on_integer_and_pointer(
             let how = PointerSum::PlusPointer;
             moved_unless_text(alloc, ctx, how, pointer, integer, asked)
         }
-        Family::Equality(op) => zero_compared(alloc, op, &integer, pointer),
-        Family::Logic(op) => Ok(joined(alloc, op, integer.form, pointer.form)?),
-        _ => Err(DerivingRefusal::NoRule),
+        Family::Equality(op) => zero_compared(alloc, op, integer, pointer),
+        Family::Logic(op) => joined(alloc, op, integer_form(integer), pointer_form(pointer)),
+        _ => no_rule(pointer, integer),
     }
 }
 
@@ -348,7 +370,7 @@ fn on_pointers(
     match family {
         Family::Order(op) => pointers_compared(alloc, op, p, q),
         Family::Equality(op) => pointers_compared(alloc, op, p, q),
-        Family::Logic(op) => Ok(joined(alloc, op, p.form, q.form)?),
+        Family::Logic(op) => joined(alloc, op, pointer_form(p), pointer_form(q)),
         _ => Err(DerivingRefusal::NoRule),
     }
 }
@@ -450,6 +472,24 @@ fn on_values(
     }
 }
 
+/// A value and what was derived on its right.
+#[tactic(auto, unfolding(deputy_rules::specs::Deriving::bind))]
+fn on_value_and(
+    alloc: Global,
+    ctx: &Context<'_>,
+    family: Family,
+    left: Value,
+    right: Derived,
+    asked: &mut Items<Asked>,
+) -> Result<Derived, DerivingRefusal>
+    ensures { Derives (bind (lift (value_in ctx.now right)) (spec.on_values ctx.now family left) asked.old) result asked.new }
+{
+    match value_of(alloc, ctx, right) {
+        Ok(right) => on_values(alloc, ctx, family, left, right, asked),
+        Err(refusal) => Err(refusal),
+    }
+}
+
 /// The operators between two operands.
 #[tactic(auto, unfolding(deputy_rules::specs::Deriving::bind, deputy_rules::specs::Operators::binary))]
 pub fn binary(
@@ -462,7 +502,8 @@ pub fn binary(
 ) -> Result<Derived, DerivingRefusal>
     ensures { Derives (spec.binary ctx.now op left right asked.old) result asked.new }
 {
-    let left = value_of(alloc, ctx, left)?;
-    let right = value_of(alloc, ctx, right)?;
-    on_values(alloc, ctx, family_of(op), left, right, asked)
+    match value_of(alloc, ctx, left) {
+        Ok(left) => on_value_and(alloc, ctx, family_of(op), left, right, asked),
+        Err(refusal) => Err(refusal),
+    }
 }

@@ -16,7 +16,8 @@ use deputy_rules::{
 use deputy_types::{Element, has_names};
 use rules_types::is_unsigned;
 use rules_values::{
-    Context, Ids, address_form, ask, beyond, block_form, constant, joined, moved_form, one,
+    Context, Ids, address_form, ask, beyond, block_form, constant, is_written, joined, moved_form,
+    one,
 };
 use sd_base::CheckKind;
 use sqlite_items::{Boxed, Items};

@@ -16,6 +16,7 @@ use deputy_types::{
     MemberName, Siblings, TypeTable, Unannotated, base_key, front_stars, last_star, shape_behind,
     stars_key,
 };
+use rules_types::value_shape;
 use sd_base::{Memory, Name};
 use sqlite_items::Items;
 use std::alloc::Global;
@@ -73,19 +74,6 @@ fn local_siblings(alloc: Global, table: &TypeTable, f: &Function) -> Result<Sibl
 {
     let parameters = parameter_siblings(alloc, table, f.head.params.as_slice())?;
     with_locals(table, f.locals.as_slice(), parameters)
-}
-
-/// Integers and pointers are what a slot can hold.
-#[tactic(auto, unfolding(deputy_rules::specs::Heads::value_shape))]
-fn value_shape(shape: Shape) -> Option<Shape>
-    ensures { result ≡ spec.value_shape shape }
-{
-    match shape {
-        Shape::Int(scalar) => Some(Shape::Int(scalar)),
-        Shape::Pointer { elem, bounds } => Some(Shape::Pointer { elem, bounds }),
-        Shape::Struct(_) => None,
-        Shape::Address => None,
-    }
 }
 
 /// The same where there is a shape.

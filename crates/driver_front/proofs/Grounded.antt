@@ -1,5 +1,5 @@
 -- A text is refused on one of the grounds.
-use Rattle.std.proofs.Common.{◌≡◌, ℕ, Option, Some, None, Result, Ok, Err, refl, subst}
+use Rattle.std.proofs.Common.{◌≡◌, Result, Ok, Err, refl, subst}
 use Rattle.c_tree.specs.declared.items.Unit.{Unit as TextUnit}
 use Rattle.c_tree.specs.Bytes.{Text}
 use Rattle.c_tree.specs.ShortUnit.{IsShortUnit}
@@ -13,11 +13,9 @@ use Rattle.deputy_types.specs.Table.{Table}
 use Rattle.deputy_types.specs.UnitLayout.{layout}
 use Rattle.light_checks.proofs.Units.{unit_refused}
 use Rattle.driver_front.specs.declared.refusal.DriverRefusal.{DriverRefusal}
-use Rattle.driver_front.specs.declared.refusal.DriverRefusal.TheVariants as refusal
-use Rattle.driver_front.specs.Grounds.{HasGround, not_read, later_item, declaration, rule}
-use Rattle.driver_front.specs.Later.{first_later}
+use Rattle.driver_front.specs.Grounds.{HasGround, not_read, declaration, rule}
 use Rattle.driver_front.specs.Parts.{type_refusal}
-use Rattle.driver_front.specs.Verdict.{Verdict, unread, read, verdict_of, by_items, by_declarations, by_rules, fault_refusal}
+use Rattle.driver_front.specs.Verdict.{Verdict, unread, read, verdict_of, by_declarations, by_rules, fault_refusal}
 
 -- an outcome that is a refusal
 abbrev refused : DriverRefusal → Result CheckedUnit DriverRefusal
@@ -30,27 +28,20 @@ module _ (t : Text) (u : TextUnit) (reads : Reads t u) (r : DriverRefusal) where
   short : IsShortUnit u
   short = unit_short t reads.words u reads.divides reads.spells
 
-  by_rules_grounded : (table : Table) → first_later u.items ≡ None → layout u ≡ Ok table → by_rules (checked table u) ≡ refused r → HasGround t r
-  by_rules_grounded table none laid h = by (checked table u) refl h
+  by_rules_grounded : (table : Table) → layout u ≡ Ok table → by_rules (checked table u) ≡ refused r → HasGround t r
+  by_rules_grounded table laid h = by (checked table u) refl h
     where
       by : (o : Result CheckedUnit Fault) → checked table u ≡ o → by_rules o ≡ refused r → HasGround t r
       by (Ok c) k h = absurd cc
-      by (Err e) k h = subst (λ (x : DriverRefusal). HasGround t x) (same_refusal (fault_refusal e) r h) (rule reads none laid (unit_refused u table short laid e k))
-
-  by_declarations_grounded : first_later u.items ≡ None → by_declarations u (layout u) ≡ refused r → HasGround t r
-  by_declarations_grounded none h = by (layout u) refl h
-    where
-      by : (o : Result Table TypeRefusal) → layout u ≡ o → by_declarations u o ≡ refused r → HasGround t r
-      by (Err e) laid h = subst (λ (x : DriverRefusal). HasGround t x) (same_refusal (type_refusal e) r h) (declaration reads none laid)
-      by (Ok table) laid h = by_rules_grounded table none laid h
+      by (Err e) k h = subst (λ (x : DriverRefusal). HasGround t x) (same_refusal (fault_refusal e) r h) (rule reads laid (unit_refused u table short laid e k))
 
   read_grounded : verdict_of u ≡ refused r → HasGround t r
   unfolding verdict_of
-  read_grounded h = by (first_later u.items) refl h
+  read_grounded h = by (layout u) refl h
     where
-      by : (o : Option ℕ) → first_later u.items ≡ o → by_items u o ≡ refused r → HasGround t r
-      by (Some n) first h = subst (λ (x : DriverRefusal). HasGround t x) (same_refusal (refusal.Later n) r h) (later_item reads first)
-      by None none h = by_declarations_grounded none h
+      by : (o : Result Table TypeRefusal) → layout u ≡ o → by_declarations u o ≡ refused r → HasGround t r
+      by (Err e) laid h = subst (λ (x : DriverRefusal). HasGround t x) (same_refusal (type_refusal e) r h) (declaration reads laid)
+      by (Ok table) laid h = by_rules_grounded table laid h
 
 grounded : (t : Text) (o : Result CheckedUnit DriverRefusal) (r : DriverRefusal) → Verdict t o → o ≡ refused r → HasGround t r
 grounded t o r (unread {r = s} h) e = subst (λ (x : DriverRefusal). HasGround t x) (same_refusal s r e) (not_read h)

@@ -1,4 +1,3 @@
-pub mod LaterBlocks
 pub mod Unreadable
 pub mod OneVerdict
 pub mod Grounded

@@ -1,5 +1,5 @@
 -- On which grounds a text is refused. No check is among them: a text is never refused, and no line of it charged, for how heavy a check is.
-use Rattle.std.specs.Prelude.{◌≡◌, ℕ, Some, None, Ok, Err}
+use Rattle.std.specs.Prelude.{◌≡◌, Ok, Err}
 use Rattle.c_tree.specs.declared.items.Unit.{Unit as TextUnit}
 use Rattle.c_tree.specs.Bytes.{Text}
 use Rattle.c_tree.specs.Units.{Reads}
@@ -9,17 +9,12 @@ use Rattle.deputy_types.specs.Table.{Table}
 use Rattle.deputy_types.specs.UnitLayout.{layout}
 use Rattle.light_checks.specs.Faults.{IsRuleFault}
 use Rattle.driver_front.specs.declared.refusal.DriverRefusal.{DriverRefusal}
-use Rattle.driver_front.specs.declared.refusal.DriverRefusal.TheVariants as refusal
-use Rattle.driver_front.specs.Later.{first_later}
 use Rattle.driver_front.specs.Parts.{type_refusal}
 use Rattle.driver_front.specs.Verdict.{IsUnread, fault_refusal}
 
--- The text is not read; or an item of it waits, and this is the line of the first; or a declaration is refused; or, of what is laid out,
--- a head, a parameter, a local, a prototype, or a simple statement or a condition that no rule derives, on its own line, or the slots of
--- a function.
+-- The text is not read; or a declaration is refused; or, of what is laid out, a head, a parameter, a local, a prototype, or a simple statement
+-- or a condition that no rule derives, on its own line, or the slots of a function.
 pub data HasGround (t : Text) : DriverRefusal → Type 0 where
   not_read : {r : DriverRefusal} → IsUnread t r → HasGround t r
-  later_item : {u : TextUnit} {n : ℕ} → Reads t u → first_later u.items ≡ Some n → HasGround t (refusal.Later n)
-  declaration : {u : TextUnit} {e : TypeRefusal} → Reads t u → first_later u.items ≡ None → layout u ≡ Err e → HasGround t (type_refusal e)
-  rule : {u : TextUnit} {table : Table} {e : Fault} → Reads t u → first_later u.items ≡ None → layout u ≡ Ok table
-      → IsRuleFault u table e → HasGround t (fault_refusal e)
+  declaration : {u : TextUnit} {e : TypeRefusal} → Reads t u → layout u ≡ Err e → HasGround t (type_refusal e)
+  rule : {u : TextUnit} {table : Table} {e : Fault} → Reads t u → layout u ≡ Ok table → IsRuleFault u table e → HasGround t (fault_refusal e)

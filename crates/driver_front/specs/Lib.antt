@@ -1,4 +1,3 @@
-pub mod Later
 pub mod Verdict
 pub mod Parts
 pub mod Grounds

@@ -26,7 +26,6 @@ at n c = Some (record { line = n; cause = c })
 abbrev pub reason_of : DriverRefusal → Option Reason
 reason_of (refusal.NotAWord n) = at n cause.Word
 reason_of (refusal.NoItem n) = at n cause.Item
-reason_of (refusal.Later n) = at n cause.Later
 reason_of (refusal.NoDecl n) = at n cause.Type
 reason_of (refusal.NoRule n) = at n cause.Rule
 reason_of (refusal.Limit n kind) = at n cause.Limit

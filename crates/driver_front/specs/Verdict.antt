@@ -1,5 +1,5 @@
 -- What becomes of a driver text, by cases in their order.
-use Rattle.std.specs.Prelude.{ℕ, List, Option, Some, None, Result, Ok, Err}
+use Rattle.std.specs.Prelude.{ℕ, List, Result, Ok, Err}
 use Rattle.c_tree.specs.declared.items.Unit.{Unit as TextUnit}
 use Rattle.c_tree.specs.declared.limits.LimitKind.{LimitKind}
 use Rattle.c_tree.specs.declared.words.Token.{Token}
@@ -14,7 +14,6 @@ use Rattle.deputy_types.specs.Table.{Table}
 use Rattle.deputy_types.specs.UnitLayout.{layout}
 use Rattle.driver_front.specs.declared.refusal.DriverRefusal.{DriverRefusal}
 use Rattle.driver_front.specs.declared.refusal.DriverRefusal.TheVariants as refusal
-use Rattle.driver_front.specs.Later.{first_later}
 use Rattle.driver_front.specs.Parts.{type_refusal}
 
 -- A text is not read: its division comes to a byte on this line at which no word begins, or to a word that passes a limit; or its words, behind some
@@ -34,19 +33,14 @@ abbrev pub by_rules : Result CheckedUnit Fault → Result CheckedUnit DriverRefu
 by_rules (Ok c) = Ok c
 by_rules (Err e) = Err (fault_refusal e)
 
--- where no item waits: the first declaration that is refused, or else the rules decide
+-- the first declaration that is refused, or else the rules decide
 abbrev pub by_declarations : TextUnit → Result Table TypeRefusal → Result CheckedUnit DriverRefusal
 by_declarations u (Err e) = Err (type_refusal e)
 by_declarations u (Ok t) = by_rules (checked t u)
 
--- the first item that uses what is not served yet, or else the declarations decide
-abbrev pub by_items : TextUnit → Option ℕ → Result CheckedUnit DriverRefusal
-by_items u (Some n) = Err (refusal.Later n)
-by_items u None = by_declarations u (layout u)
-
 -- what becomes of a text that is read as this unit
 unfoldable pub verdict_of : TextUnit → Result CheckedUnit DriverRefusal
-verdict_of u = by_items u (first_later u.items)
+verdict_of u = by_declarations u (layout u)
 
 -- What becomes of a text: it is not read, or what is read is accepted as a checked unit or refused.
 pub data Verdict (t : Text) : Result CheckedUnit DriverRefusal → Type 0 where

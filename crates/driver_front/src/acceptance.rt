@@ -5,7 +5,6 @@ ghost use Rattle.driver_front.specs.Verdict.{Verdict, verdict_of};
 ghost use Rattle.driver_front.specs.Parts.{type_refusal as of_layout, rule_refusal as of_rules};
 
 use crate::DriverRefusal;
-use crate::later_items::first_later;
 use crate::reading::read_driver;
 use c_tree::Unit;
 use check_numbering::RuleRefusal;
@@ -16,9 +15,8 @@ use std::alloc::Global;
 
 /// What becomes of a driver text: the checked unit that the rules derive from it, or its refusal.
 ///
-/// Refused by the first of these that holds: it is not read (`NotAWord`, `NoItem`, `Limit`); an item uses what is not served yet (`Later`); a declaration stands
-/// against the rules of declarations (`NoDecl`) or passes a limit (`Limit`); no rule derives what stands in a function (`NoRule`), or it has too many locals
-/// (`Limit`). `Memory` where memory is wanting. A text has one verdict (`one_verdict`), so this is the only answer.
+/// Refused by the first of these that holds: it is not read (`NotAWord`, `NoItem`, `Limit`); a declaration stands against the rules of declarations
+/// (`NoDecl`) or passes a limit (`Limit`); no rule derives what stands in a function (`NoRule`), or it has too many locals (`Limit`). `Memory` where memory is wanting. A text has one verdict (`one_verdict`), so this is the only answer.
 pub fn accept(alloc: Global, text: &[u8]) -> Result<CheckedUnit, DriverRefusal>
     requires { count_by (λ byte. byte == 10) text.now ≤ 4294967294 }
     ensures { result ≢ Err DriverRefusal.Memory → Verdict text.now result }
@@ -35,9 +33,6 @@ fn accept_unit(alloc: Global, unit: &Unit) -> Result<CheckedUnit, DriverRefusal>
     requires { IsShortUnit unit.now }
     ensures { result ≢ Err DriverRefusal.Memory → result ≡ verdict_of unit.now }
 {
-    if let Some(line) = first_later(unit.items.as_slice()) {
-        return Err(DriverRefusal::Later(line));
-    }
     let types = match layouts(alloc, unit) {
         Ok(types) => types,
         Err(refusal) => return Err(type_refusal(refusal)),

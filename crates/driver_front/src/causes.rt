@@ -15,7 +15,7 @@ pub enum Cause {
     Rule,
     /// A limit is passed.
     Limit,
-    /// An item uses what is not served yet.
+    /// An item that a run does not serve yet. No refusal of a text by itself has this cause.
     Later,
 }
 

@@ -3,8 +3,6 @@
 
 mod acceptance;
 mod causes;
-mod later_forms;
-mod later_items;
 mod laws;
 mod reading;
 mod reason;
@@ -12,7 +10,6 @@ mod refusal;
 
 pub use acceptance::accept;
 pub use causes::Cause;
-pub use later_items::item_line;
 pub use laws::{no_text_is_refused_for_a_check, one_verdict};
 pub use reading::read_driver;
 pub use reason::Reason;

@@ -8,8 +8,8 @@ use thiserror::Error;
 
 /// Why a driver text is not accepted, with the line where. Lines count from 1.
 ///
-/// It is not read (`NotAWord`, `NoItem`, or a limit of words), or an item is not served yet (`Later`), or a declaration stands against the rules of declarations
-/// (`NoDecl`, or a limit of declarations), or no rule derives what stands in a function (`NoRule`, or the limit on slots): the first of these that holds is given.
+/// It is not read (`NotAWord`, `NoItem`, or a limit of words), or a declaration stands against the rules of declarations (`NoDecl`, or a limit of
+/// declarations), or no rule derives what stands in a function (`NoRule`, or the limit on slots): the first of these that holds is given.
 #[derive(Clone, Copy, PartialEq, Eq, Debug, Drop, Error)]
 pub enum DriverRefusal {
     /// On this line stands a byte at which no word begins.
@@ -18,9 +18,6 @@ pub enum DriverRefusal {
     /// What begins on this line is no item.
     #[error("line {0}: no item")]
     NoItem(u32),
-    /// The item that begins on this line uses what is not served yet. No item before it does.
-    #[error("line {0}: not served yet")]
-    Later(u32),
     /// The declaration on this line stands against a rule of declarations.
     #[error("line {0}: a declaration that does not stand")]
     NoDecl(u32),
@@ -43,7 +40,6 @@ impl DriverRefusal {
         match self {
             DriverRefusal::NotAWord(line) => at(line, Cause::Word),
             DriverRefusal::NoItem(line) => at(line, Cause::Item),
-            DriverRefusal::Later(line) => at(line, Cause::Later),
             DriverRefusal::NoDecl(line) => at(line, Cause::Type),
             DriverRefusal::NoRule(line) => at(line, Cause::Rule),
             DriverRefusal::Limit(line, _) => at(line, Cause::Limit),

@@ -46,7 +46,16 @@ run s d||int init(void) { return 0; }~int init(void) { return 0; }|0|Refused|ref
 check d||int f(void) { return 1 @ 2; }|0|Refused|refused 1 1 word~
 check d||~int a234567890123456789012345678901234567890123456789012345678901234;|0|Refused|refused 1 2 limit~
 check d||int f(void) { return 1 }|0|Refused|refused 1 1 item~
-check d||int a; int a;~char *nullterm s;|0|Refused|refused 1 2 later~
+check d||int a; int a;~char *nullterm s;|0|Refused|refused 1 1 type~
+// strings, unions and handlers are accepted where the rules derive them
+check d||char *nullterm name;~int init(void) { name = \"ring\"; prints(name + 1); return *name; }|0|Done|accepted 1~
+check d||struct m { int kind; union { int n when (kind == 1); int *p when (kind == 2); } u; }; struct m g;~int f(void) { zero(g.u); g.kind = 1; g.u.n = 5; return g.u.n; }|0|Done|accepted 1~
+check d||void tick(int a) { printd(a); }~int f(void) { int r; r = set_timer(1, 10, tick, 7); return r; }|0|Done|accepted 1~
+check d||struct s {~union { int a when (t == 1); } u; int t; };|0|Refused|refused 1 2 type~
+check d||char *nullterm s;~int f(void) {~return s[2]; }|0|Refused|refused 1 3 rule~
+check d||int h(int a) { return a; }~int f(void) { int r;~r = set_timer(1, 1, h, 0); return r; }|0|Refused|refused 1 3 rule~
+check d||int a;~void lock(int k);|0|Refused|refused 1 2 rule~
+check d||void f(void) {~now(1); }|0|Refused|refused 1 2 rule~
 check d||int a;~int a;~void *f(void);|0|Refused|refused 1 2 type~
 check d||int f(void) {~  int n; int *q; q = &n; return 0; }|0|Refused|refused 1 2 rule~
 check d||int g(void) {~f(1, 2);~return 0; }~int f(int a,~int a) { return 0; }|0|Refused|refused 1 2 rule~

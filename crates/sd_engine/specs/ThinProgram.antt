@@ -23,7 +23,6 @@ use Rattle.c_tree.specs.declared.types.Base.TheVariants as base
 use Rattle.c_tree.specs.declared.types.Number.{Number}
 use Rattle.c_tree.specs.declared.words.Suffix.{Suffix}
 use Rattle.c_tree.specs.declared.words.Suffix.TheVariants as suffix
-use Rattle.driver_front.specs.Later.{item_line}
 use Rattle.sd_engine.specs.declared.thin_program.Statement.{Statement}
 use Rattle.sd_engine.specs.declared.thin_program.Statement.TheVariants as statement
 use Rattle.sd_engine.specs.declared.thin_program.NumberSum.{NumberSum}
@@ -114,6 +113,13 @@ function_of f = if is_init_head f.head && nat_eq (length f.locals) 0 then statem
 abbrev pub init_of : Item → Option (List Statement)
 init_of (item.Function f) = function_of f
 init_of _ = None
+
+-- the line of an item's first word
+abbrev pub item_line : Item → ℕ
+item_line (item.Struct s) = s.line
+item_line (item.Global g) = g.line
+item_line (item.Function f) = f.head.line
+item_line (item.Prototype h) = h.line
 
 -- what a run makes of a text's items: there is none, there is `init` with these statements, or the first item that is not served yet begins
 -- on this line

@@ -2,13 +2,13 @@
 //! sum of numbers, return one, or do nothing.
 ghost use Rattle.std.specs.Prelude.{◌≡◌, IfOk};
 ghost use Rattle.std.specs.Option.{option_map};
-ghost use Rattle.sd_engine.specs.ThinProgram.{action_of, call_of, function_of, init_of, is_init_head as names_init, is_int_result as int_result, is_signed as signed_suffix, joined as both, number_total as number_sum, statement_of as meaning, statements_of as meanings, total as total_of};
+ghost use Rattle.sd_engine.specs.ThinProgram.{action_of, call_of, function_of, init_of, is_init_head as names_init, item_line as line_of, is_int_result as int_result, is_signed as signed_suffix, joined as both, number_total as number_sum, statement_of as meaning, statements_of as meanings, total as total_of};
 ghost use Rattle.sd_engine.specs.ThinTexts.{IsThinUnit};
 
 use c_tree::{
     Action, Base, Binary, Expr, Function, Head, Item, Number, ResultBase, Stmt, Suffix, Unit,
 };
-use driver_front::{Cause, item_line};
+use driver_front::Cause;
 use sd_base::Name;
 use std::alloc::{AllocError, Global};
 
@@ -63,6 +63,18 @@ pub fn thin_program(alloc: Global, unit: &Unit) -> Result<ThinText, AllocError>
     match rest {
         [] => Ok(ThinText::Init(statements)),
         [second, ..] => Ok(ThinText::Refused(item_line(second), Cause::Later)),
+    }
+}
+
+/// The line of an item's first word.
+fn item_line(item: &Item) -> u32
+    ensures { result ≡ line_of item.now }
+{
+    match item {
+        Item::Struct(structure) => structure.line,
+        Item::Global(global) => global.line,
+        Item::Function(function) => function.head.line,
+        Item::Prototype(head) => head.line,
     }
 }
 

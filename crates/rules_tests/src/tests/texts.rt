@@ -11,12 +11,12 @@ use c_tree::{Function, Item, Unit};
 use check_numbering::RuleRefusal;
 use checked_tree::{CheckedFn, CheckedUnit};
 use deputy_types::{TypeRefusal, layouts};
-use driver_front::{DriverRefusal, read_driver};
+use driver_front::{DriverRefusal, accept, read_driver};
 use rules_stmt::check_unit;
 use std::alloc::{AllocError, Global};
 use std::fmt::Write;
 
-/// What becomes of a text. What `accept` does not serve yet is looked at too.
+/// What becomes of a text, part by part: the tables look at what the parts make of it.
 #[derive(Drop)]
 enum Outcome {
     Unread(DriverRefusal),
@@ -185,14 +185,21 @@ pub fn offsets(alloc: Global, text: &str) -> Result<String, AllocError> {
     Ok(out)
 }
 
+/// What becomes of a text, by the call that users have.
+fn accepted(alloc: Global, text: &[u8]) -> Result<CheckedUnit, DriverRefusal> {
+    if text.len() > 1_048_576 {
+        return Err(DriverRefusal::Memory);
+    }
+    let outcome = accept(alloc, text);
+    outcome
+}
+
 /// What becomes of a text, in one line.
 pub fn verdict(alloc: Global, text: &str) -> Result<String, AllocError> {
     let mut out = String::new(alloc);
-    match outcome_of(alloc, text) {
-        Outcome::Unread(refusal) => writeln!(out, "  {refusal:?}")?,
-        Outcome::Undeclared(refusal) => writeln!(out, "  {refusal:?}")?,
-        Outcome::Underived(refusal) => writeln!(out, "  {refusal:?}")?,
-        Outcome::Checked(_, _) => out.push_str("  accepted\n")?,
+    match accepted(alloc, text.as_bytes()) {
+        Ok(_) => out.push_str("  accepted\n")?,
+        Err(refusal) => writeln!(out, "  {refusal:?}")?,
     }
     Ok(out)
 }

@@ -488,6 +488,16 @@ int *f(void) {~return 5;~}
   NoRule(2)
 int f(void) {~int~x;~x~=~y~;~return 0; }
   NoRule(4)
+// what is not read is told before all else, and a declaration before a rule
+int f(void) {~x = 1; return 0; }~int y;~int y;~int g(void) { return 1 @ 2; }
+  NotAWord(5)
+int f(void) {~x = 1; return 0; }~int y;~int y;~}
+  NoItem(5)
+int f(void) {~x = 1; return 0; }~int a[65537];
+  NoDecl(3)
+// strings, unions, handlers and calls of the kernel in one text
+struct s { int k; union { int n when (k == 1); } u; };~struct s g;~char *nullterm w;~void h(int a) { printd(a); }~int f(void) { zero(g.u); g.k = 1; w = \"ab\"; prints(w + 1); queue_work(h, g.u.n); return *w; }
+  accepted
 ";
 
 #[test]

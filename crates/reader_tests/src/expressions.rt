@@ -1,4 +1,7 @@
 //! Expressions: trees worked by hand, the rows of the operators, and the deepest and the longest.
+ghost use Rattle.c_tree.specs.Bytes.{Text};
+ghost use Rattle.c_tree.specs.Division.{IsDivision};
+
 use crate::printed::write_expr;
 use crate::texts::{Frame, View, words_of, wrong_limits, wrong_rows};
 use c_expr::read_expr;
@@ -14,7 +17,9 @@ fn written(alloc: Global, tree: &Expr, place: usize) -> Result<String, AllocErro
 }
 
 /// How many words the first expression of these words has, and the expression, or its refusal.
-fn read_tokens(alloc: Global, words: &[Token]) -> Result<String, AllocError> {
+fn read_tokens(alloc: Global, words: &[Token]) -> Result<String, AllocError>
+    requires { (t : Text) × IsDivision t words.now }
+{
     match read_expr(alloc, words, 0) {
         Ok((tree, place)) => written(alloc, &tree, place),
         Err(refusal) => format!(in alloc; "{refusal:?}"),

@@ -1,4 +1,4 @@
-//! The texts of the generator, against a text written out and a length counted by hand.
+//! The texts of the generator, against a text written out.
 use gen_driver::gen_text;
 use std::test::Fail;
 
@@ -14,12 +14,5 @@ fn one_function_is_the_text_written_out(rt: HostRuntime) -> Result<(), Fail> {
     let (driver, scenario) = gen_text(rt.alloc(), 1)?;
     assert_eq!(rt; driver.as_slice(), ONE_FUNCTION.as_bytes());
     assert_eq!(rt; scenario.as_slice(), b"load d1 1\nfinish 1\n".as_slice());
-    Ok(())
-}
-
-#[test]
-fn a_text_has_the_length_counted_by_hand(rt: HostRuntime) -> Result<(), Fail> {
-    let (driver, _) = gen_text(rt.alloc(), 64)?;
-    assert_eq!(rt; driver.len(), 6869);
     Ok(())
 }

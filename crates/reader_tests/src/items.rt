@@ -1,11 +1,10 @@
 //! Whole texts: each form of item and of statement with the line of each part, what is none, and a driver of some length.
 use crate::driver::SERIAL;
 use crate::printed::write_unit;
-use crate::texts::{repeated, words_of};
+use crate::texts::{Frame, View, repeated, words_of, wrong_rows};
 use c_decl::{UnitRefusal, read_unit};
 use c_tree::Unit;
 use std::alloc::{AllocError, Global};
-use std::fmt::Write;
 use std::test::Fail;
 
 /// The unit of a text. One that has no words is refused as one for which memory is wanting.
@@ -16,14 +15,19 @@ fn unit_of(alloc: Global, text: &str) -> Result<Unit, UnitRefusal> {
     read_unit(alloc, words.as_slice())
 }
 
-/// The items of a text as lines, or its refusal.
-fn read(alloc: Global, text: &str) -> Result<String, AllocError> {
-    let mut out = String::new(alloc);
-    match unit_of(alloc, text) {
-        Ok(unit) => write_unit(&mut out, &unit)?,
-        Err(refusal) => write!(out, "{refusal:?}")?,
-    }
+/// How many items a unit has, and the items as lines.
+fn written(alloc: Global, unit: &Unit) -> Result<String, AllocError> {
+    let mut out = format!(in alloc; "{} items\n", unit.items.len())?;
+    write_unit(&mut out, unit)?;
     Ok(out)
+}
+
+/// The same of a text, or its refusal.
+pub fn read_items(alloc: Global, text: &str) -> Result<String, AllocError> {
+    match unit_of(alloc, text) {
+        Ok(unit) => written(alloc, &unit),
+        Err(refusal) => format!(in alloc; "{refusal:?}"),
+    }
 }
 
 /// Each form of item, and lines within one.
@@ -58,7 +62,8 @@ char d; signed char e; unsigned char l; short m; unsigned short n;
 int o; long q; unsigned r; unsigned int v; unsigned long w;
 ";
 
-const ITEMS_READ: &str = "1 Int x
+const ITEMS_READ: &str = "24 items
+1 Int x
 static 2 Char* s
 4 Int a[3] = 5
 4 Int b = -5
@@ -96,8 +101,11 @@ static 17 s* h, 17 Int a, 18 Char*nullterm b
 
 #[test]
 fn each_item_is_read_with_its_lines(rt: HostRuntime) -> Result<(), Fail> {
-    assert_eq!(rt; read(rt.alloc(), ITEMS)?.as_str(), ITEMS_READ);
-    assert_eq!(rt; read(rt.alloc(), "\n /* */ \n")?.as_str(), "");
+    assert_eq!(rt; read_items(rt.alloc(), ITEMS)?.as_str(), ITEMS_READ);
+    assert_eq!(rt;
+        read_items(rt.alloc(), "\n /* */ \n")?.as_str(),
+        "0 items\n"
+    );
     Ok(())
 }
 
@@ -141,7 +149,8 @@ while (y) { return; }
 f(); }
 ";
 
-const STATEMENTS_READ: &str = "1 Void f, 1 Int x {
+const STATEMENTS_READ: &str = "1 items
+1 Void f, 1 Int x {
 
 3 nothing; 
 4 x = 1; 
@@ -174,27 +183,11 @@ const STATEMENTS_READ: &str = "1 Void f, 1 Int x {
 
 #[test]
 fn each_statement_is_read_with_its_lines(rt: HostRuntime) -> Result<(), Fail> {
-    assert_eq!(rt; read(rt.alloc(), STATEMENTS)?.as_str(), STATEMENTS_READ);
+    assert_eq!(rt;
+        read_items(rt.alloc(), STATEMENTS)?.as_str(),
+        STATEMENTS_READ
+    );
     Ok(())
-}
-
-/// Those rows of a table that are not refused so where they stand between these texts.
-fn not_refused(
-    alloc: Global,
-    before: &str,
-    rows: &str,
-    after: &str,
-    refusal: &str,
-) -> Result<String, AllocError> {
-    let mut out = String::new(alloc);
-    for row in rows.lines() {
-        let text = format!(in alloc; "{before}{row}{after}")?;
-        let found = read(alloc, text.as_str())?;
-        if found.as_str() != refusal {
-            writeln!(out, "{row}: {found}")?;
-        }
-    }
-    Ok(out)
 }
 
 /// What is no item.
@@ -248,11 +241,20 @@ int f(void) { int a[2]; }
 int f(void) { void a; }
 int f(void) { f(); int a; }";
 
+/// They stand on the fourth line, behind an item and before another.
+const FOURTH_LINE: Frame<'static> = Frame {
+    view: View::Items,
+    before: "int f(void)\n{\n}\n",
+    after: "\nint z;",
+    wanted: "NoItem(4)",
+};
+
 #[test]
 fn what_is_no_item_is_refused_on_its_first_line(rt: HostRuntime) -> Result<(), Fail> {
-    let before = "int f(void)\n{\n}\n";
-    let found = not_refused(rt.alloc(), before, NO_ITEMS, "\nint z;", "NoItem(4)")?;
-    assert_eq!(rt; found.as_str(), "");
+    assert_eq!(rt;
+        wrong_rows(rt.alloc(), &FOURTH_LINE, NO_ITEMS)?.as_str(),
+        ""
+    );
     Ok(())
 }
 
@@ -315,16 +317,20 @@ x += 1;
 \"s\" 1;
 x ? y : z;";
 
+/// They stand in a function.
+const IN_A_BODY: Frame<'static> = Frame {
+    view: View::Items,
+    before: "void f(void) {\n",
+    after: "\n}",
+    wanted: "NoItem(1)",
+};
+
 #[test]
 fn what_is_no_statement_makes_no_item(rt: HostRuntime) -> Result<(), Fail> {
-    let found = not_refused(
-        rt.alloc(),
-        "void f(void) {\n",
-        NO_STATEMENTS,
-        "\n}",
-        "NoItem(1)",
-    )?;
-    assert_eq!(rt; found.as_str(), "");
+    assert_eq!(rt;
+        wrong_rows(rt.alloc(), &IN_A_BODY, NO_STATEMENTS)?.as_str(),
+        ""
+    );
     Ok(())
 }
 
@@ -332,19 +338,13 @@ fn what_is_no_statement_makes_no_item(rt: HostRuntime) -> Result<(), Fail> {
 fn bodies_nest_as_deep_as_brackets_may(rt: HostRuntime) -> Result<(), Fail> {
     let nested = repeated(rt.alloc(), "while (x) {", 62, "f();", "}")?;
     let text = format!(in rt.alloc(); "void f(void) {{{nested}}}")?;
-    let found = read(rt.alloc(), text.as_str())?;
-    assert!(rt; found.ends_with("} } } } \n1 return; \n} 1\n"));
+    assert!(rt; read_items(rt.alloc(), text.as_str())?.starts_with("1 items\n"));
     Ok(())
 }
 
-/// As many as `SERIAL` has, counted by another program.
-const SERIAL_ITEMS: usize = 36;
-
 #[test]
 fn a_driver_of_some_length_is_read_whole(rt: HostRuntime) -> Result<(), Fail> {
-    match unit_of(rt.alloc(), SERIAL) {
-        Ok(unit) => assert_eq!(rt; unit.items.len(), SERIAL_ITEMS),
-        Err(refusal) => assert!(rt; false, "{refusal:?}"),
-    }
+    // as many as another program counted
+    assert!(rt; read_items(rt.alloc(), SERIAL)?.starts_with("36 items\n"));
     Ok(())
 }

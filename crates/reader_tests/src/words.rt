@@ -1,65 +1,88 @@
 //! The words of texts: each form with its value and its line, what is none, each limit, and texts of a mebibyte.
-use crate::texts::{repeated, words_of};
-use c_tree::{Token, Word};
+use crate::texts::{Frame, View, words_of, wrong_limits, wrong_rows};
+use c_tree::{Keyword, Sign, Suffix, Token, Word};
+use sd_base::Name;
 use std::alloc::{AllocError, Global};
 use std::fmt::Write;
 use std::test::Fail;
 
-/// A word in short: `n` a name, `k` a reserved word, `d` a number, `c` a character, `s` a string with its number.
-fn write_word(out: &mut String, word: &Word) -> Result<(), AllocError> {
-    match word {
-        Word::Name(name) => {
-            out.push_str("n")?;
-            for byte in name.bytes() {
-                out.push(char::from(*byte))?;
-            }
-        }
-        Word::Keyword(keyword) => write!(out, "k{keyword:?}")?,
-        Word::Number(value, suffix) => write!(out, "d{value}{suffix:?}")?,
-        Word::Character(byte) => write!(out, "c{byte}")?,
-        Word::String(bytes, number) => {
-            write!(out, "s{number}")?;
-            for byte in bytes.as_slice() {
-                write!(out, ",{byte}")?;
-            }
-        }
-        Word::Sign(sign) => write!(out, "{sign:?}")?,
+fn write_name(out: &mut String, name: &Name) -> Result<(), AllocError> {
+    out.push_str("n")?;
+    for byte in name.bytes() {
+        out.push(char::from(*byte))?;
     }
     Ok(())
 }
 
-/// The words of each line behind its number.
-fn write_words(out: &mut String, words: &[Token]) -> Result<(), AllocError> {
+fn write_keyword(out: &mut String, keyword: Keyword) -> Result<(), AllocError> {
+    write!(out, "k{keyword:?}")
+}
+
+fn write_number(out: &mut String, value: u32, suffix: Suffix) -> Result<(), AllocError> {
+    write!(out, "d{value}{suffix:?}")
+}
+
+fn write_character(out: &mut String, byte: u8) -> Result<(), AllocError> {
+    write!(out, "c{byte}")
+}
+
+fn write_string(out: &mut String, bytes: &[u8], number: u32) -> Result<(), AllocError> {
+    write!(out, "s{number}")?;
+    for byte in bytes {
+        write!(out, ",{byte}")?;
+    }
+    Ok(())
+}
+
+fn write_sign(out: &mut String, sign: Sign) -> Result<(), AllocError> {
+    write!(out, "{sign:?}")
+}
+
+/// A word in short: `n` a name, `k` a reserved word, `d` a number, `c` a character, `s` a string with its number.
+fn write_word(out: &mut String, word: &Word) -> Result<(), AllocError> {
+    match word {
+        Word::Name(name) => write_name(out, name),
+        Word::Keyword(keyword) => write_keyword(out, *keyword),
+        Word::Number(value, suffix) => write_number(out, *value, *suffix),
+        Word::Character(byte) => write_character(out, *byte),
+        Word::String(bytes, number) => write_string(out, bytes.as_slice(), *number),
+        Word::Sign(sign) => write_sign(out, *sign),
+    }
+}
+
+fn write_line(out: &mut String, line: u32) -> Result<(), AllocError> {
+    write!(out, "\n{line}:")
+}
+
+/// How many words there are, and those of each line behind its number.
+fn written(alloc: Global, words: &[Token]) -> Result<String, AllocError> {
+    let mut out = format!(in alloc; "{} words", words.len())?;
     let mut line = 0;
     for token in words {
         if token.line != line {
             line = token.line;
-            write!(out, "\n{line}:")?;
+            write_line(&mut out, line)?;
         }
         out.push_str(" ")?;
-        write_word(out, &token.word)?;
+        write_word(&mut out, &token.word)?;
     }
-    Ok(())
+    Ok(out)
 }
 
 /// The words of a text in short, or its refusal.
-fn read(alloc: Global, text: &str) -> Result<String, AllocError> {
-    let mut out = String::new(alloc);
+pub fn read_words(alloc: Global, text: &str) -> Result<String, AllocError> {
     match words_of(alloc, text) {
-        Ok(words) => write_words(&mut out, words.as_slice())?,
-        Err(refusal) => write!(out, "{refusal:?}")?,
+        Ok(words) => written(alloc, words.as_slice()),
+        Err(refusal) => format!(in alloc; "{refusal:?}"),
     }
-    Ok(out)
 }
 
 /// How many words a text has, or its refusal.
-fn count(alloc: Global, text: &str) -> Result<String, AllocError> {
-    let mut out = String::new(alloc);
+pub fn count_words(alloc: Global, text: &str) -> Result<String, AllocError> {
     match words_of(alloc, text) {
-        Ok(words) => write!(out, "{}", words.len())?,
-        Err(refusal) => write!(out, "{refusal:?}")?,
+        Ok(words) => format!(in alloc; "{} words", words.len()),
+        Err(refusal) => format!(in alloc; "{refusal:?}"),
     }
-    Ok(out)
 }
 
 /// Each form of word and of gap.
@@ -103,7 +126,7 @@ b
 += -= *= /= %= &= |= ^= <<= >>= ? :
 /* é \x00 */ a";
 
-const WORDS_READ: &str = "
+const WORDS_READ: &str = "112 words
 4: kInt nx_1
 5: n_ Semicolon
 6: ninteger nIn
@@ -131,7 +154,7 @@ const WORDS_READ: &str = "
 
 #[test]
 fn words_have_their_values_and_lines(rt: HostRuntime) -> Result<(), Fail> {
-    assert_eq!(rt; read(rt.alloc(), WORDS)?.as_str(), WORDS_READ);
+    assert_eq!(rt; read_words(rt.alloc(), WORDS)?.as_str(), WORDS_READ);
     Ok(())
 }
 
@@ -168,72 +191,53 @@ x # 1
 \x0b
 é";
 
+/// They stand on the second line of three.
+const SECOND_LINE: Frame<'static> = Frame {
+    view: View::Words,
+    before: "a\n",
+    after: "\n",
+    wanted: "NotAWord(2)",
+};
+
 #[test]
 fn what_is_no_word_is_refused_on_its_line(rt: HostRuntime) -> Result<(), Fail> {
-    for row in NO_WORDS.lines() {
-        let text = format!(in rt.alloc(); "a\n{row}\n")?;
-        assert_eq!(rt;
-            read(rt.alloc(), text.as_str())?.as_str(),
-            "NotAWord(2)",
-            "{row}"
-        );
-    }
+    assert_eq!(rt;
+        wrong_rows(rt.alloc(), &SECOND_LINE, NO_WORDS)?.as_str(),
+        ""
+    );
     Ok(())
 }
 
 /// Texts as a piece, how often it stands there and what stands behind it, and how many words such a text has or its refusal. The last are of a mebibyte.
 const LIMITS: &str = "\
-a;|100000||200000
-a;|100000|;|Limit(1, Words)
-a |999|;a|1001
-a |1000|;|Limit(1, Run)
-a |1000|@|NotAWord(1)
-(|64|)[|66
-(|65|@|Limit(1, Nesting)
-})|70|{|141
-*&|8|a - - --- -|22
-*&|8|-|Limit(1, Unary)
-- |16|-- - a|19
-a|63||1
-a|64||Limit(1, Name)
-+ a |500|b|Limit(1, Run)
- |1048576||0
- |1048577||0
-/|1048576||0
-a b |262144||Limit(1, Run)
-\"|1048576||Limit(1, Run)
-\"\\|524288||NotAWord(1)
-*|1048576||Limit(1, Unary)
-9|1048576||NotAWord(1)
-a|1048576||Limit(1, Name)
-/* |349525||NotAWord(1)
-#1|524288||0";
-
-/// The text of a row of `LIMITS`, and what is wanted of it.
-fn limit_row(alloc: Global, row: &str) -> Result<(String, &str), AllocError> {
-    let (piece, more) = row.split_once('|').unwrap_or((row, ""));
-    let (times, more) = more.split_once('|').unwrap_or((more, ""));
-    let (tail, want) = more.split_once('|').unwrap_or((more, ""));
-    let times = times.parse::<usize>().unwrap_or(0);
-    let text = repeated(alloc, piece, times, tail, "")?;
-    Ok((text, want))
-}
+a;|100000|||200000 words
+a;|100000|;||Limit(1, Words)
+a |999|;a||1001 words
+a |1000|;||Limit(1, Run)
+a |1000|@||NotAWord(1)
+(|64|)[||66 words
+(|65|@||Limit(1, Nesting)
+})|70|{||141 words
+*&|8|a - - --- -||22 words
+*&|8|-||Limit(1, Unary)
+- |16|-- - a||19 words
+a|63|||1 words
+a|64|||Limit(1, Name)
++ a |500|b||Limit(1, Run)
+ |1048576|||0 words
+ |1048577|||0 words
+/|1048576|||0 words
+a b |262144|||Limit(1, Run)
+\"|1048576|||Limit(1, Run)
+\"\\|524288|||NotAWord(1)
+*|1048576|||Limit(1, Unary)
+9|1048576|||NotAWord(1)
+a|1048576|||Limit(1, Name)
+/* |349525|||NotAWord(1)
+#1|524288|||0 words";
 
 #[test]
 fn limits_are_passed_one_past_their_values(rt: HostRuntime) -> Result<(), Fail> {
-    for row in LIMITS.lines() {
-        let (text, want) = limit_row(rt.alloc(), row)?;
-        assert_eq!(rt; count(rt.alloc(), text.as_str())?.as_str(), want, "{row}");
-    }
-    Ok(())
-}
-
-#[test]
-fn a_limit_is_told_on_the_line_of_its_word(rt: HostRuntime) -> Result<(), Fail> {
-    let text = repeated(rt.alloc(), "a\n", 1_000, ";", "")?;
-    assert_eq!(rt;
-        count(rt.alloc(), text.as_str())?.as_str(),
-        "Limit(1001, Run)"
-    );
+    assert_eq!(rt; wrong_limits(rt.alloc(), View::Count, LIMITS)?.as_str(), "");
     Ok(())
 }

@@ -1,0 +1,4 @@
+pub mod Tracking
+pub mod Rules
+pub mod Told
+pub mod Examples

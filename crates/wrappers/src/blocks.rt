@@ -1,0 +1,75 @@
+//! Calls that allocate blocks and give them back.
+ghost use Rattle.std.specs.Prelude.{◌≡◌, ◌<◌, ◌≤◌, ◌+◌, ◌*◌};
+ghost use Rattle.wrappers.specs.Rows as row;
+ghost use Rattle.wrappers.specs.Serving.{ServesRow, IsStop};
+
+use crate::CallOut;
+use sd_base::{FailKind, Fat, Layout, Update};
+use update_tracker::{Reply, Tracked};
+
+/// The null pointer.
+const NULL: Fat = Fat {
+    value: 0,
+    lo: 0,
+    hi: 0,
+};
+
+/// A pointer to the first of `n` elements of this size from `base` on, bounded by them. A block that was granted ends within the arena, so
+/// nothing saturates.
+fn block(base: u32, size: u32, n: i64) -> Fat
+    ensures { (count : ℕ) → n ≡ pos count → count < 2 ^ 32 → base + count * size < 2 ^ 32 → result ≡ row.block base size count }
+{
+    let count = u32::try_from(n).unwrap_or(0);
+    Fat {
+        value: base,
+        lo: base,
+        hi: base.saturating_add(count.saturating_mul(size)),
+    }
+}
+
+/// `kalloc(T, n)`: a new block of n elements, or null.
+pub fn kalloc(kernel: &mut Tracked, owner: u8, elem: u32, size: u32, n: i64) -> CallOut
+    requires driver { 0 < owner }
+    requires owner { owner ≤ 4 }
+    ensures serves { ServesRow kernel.old owner (λ share h. row.kalloc h owner elem size n) result kernel.new }
+    ensures share { kernel.new.kernel.claims.share ≡ kernel.old.kernel.claims.share }
+    ensures undone { kernel.new.undone ≡ kernel.old.undone }
+{
+    if size == 0 {
+        return CallOut::Pointer(NULL);
+    }
+    let layout = Layout {
+        elem,
+        size,
+        nullterm: false,
+    };
+    match kernel.update(
+        owner,
+        Update::Grant {
+            layout,
+            n,
+            image: false,
+        },
+    ) {
+        Ok(Reply::Base(base)) => CallOut::Pointer(block(base, size, n)),
+        _ => CallOut::Pointer(NULL),
+    }
+}
+
+/// `kfree(p)`: the block that begins at this address is given back; nothing for null.
+pub fn kfree(kernel: &mut Tracked, owner: u8, base: u32) -> CallOut
+    requires driver { 0 < owner }
+    requires owner { owner ≤ 4 }
+    ensures serves { ServesRow kernel.old owner (λ share h. row.kfree h owner base) result kernel.new }
+    ensures share { kernel.new.kernel.claims.share ≡ kernel.old.kernel.claims.share }
+    ensures undone { kernel.new.undone ≡ kernel.old.undone }
+    ensures stopped { IsStop result (kernel.new ≡ kernel.old) }
+{
+    if base == 0 {
+        return CallOut::Reply(0);
+    }
+    match kernel.update(owner, Update::Free { base }) {
+        Ok(_) => CallOut::Reply(0),
+        Err(_) => CallOut::Fail(FailKind::Free),
+    }
+}

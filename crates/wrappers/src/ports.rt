@@ -1,0 +1,45 @@
+//! Calls that read and write ports.
+ghost use Rattle.std.specs.Prelude.{◌≡◌};
+ghost use Rattle.wrappers.specs.Rows as row;
+ghost use Rattle.wrappers.specs.Serving.{ReadsRow, ReadsPort, TakesAnswer, IsStop};
+
+use crate::{CallOut, Saying};
+use device_model::Devices;
+use sd_base::FailKind;
+use update_tracker::Tracked;
+
+/// The number of a port, where the owner holds it.
+fn held_port(kernel: &Tracked, owner: u8, port: i32) -> Option<u16>
+    ensures { ReadsPort kernel.now owner port result }
+{
+    if !kernel.kernel().claims.has_port(owner, port) {
+        return None;
+    }
+    u16::try_from(port).ok()
+}
+
+/// `port_in(p)`: the oldest answer of the caller's port, which is taken, or 0.
+pub fn port_in(kernel: &Tracked, devices: &mut Devices, owner: u8, port: i32) -> CallOut
+    ensures reads { ReadsRow kernel.now (λ h. row.port_in h devices.old owner port) result }
+    ensures devices { TakesAnswer kernel.now (λ h. row.port_of h owner port) devices.old devices.new }
+    ensures stopped { IsStop result (devices.new ≡ devices.old) }
+{
+    match held_port(kernel, owner, port) {
+        None => CallOut::Fail(FailKind::Port),
+        Some(number) => CallOut::Reply(devices.port_in(number)),
+    }
+}
+
+/// `port_out(p, v)`: what is written to the caller's port is printed.
+pub fn port_out(kernel: &Tracked, devices: &mut Devices, owner: u8, port: i32, v: i32) -> CallOut
+    ensures reads { ReadsRow kernel.now (λ h. row.port_out h owner port v) result }
+    ensures devices { devices.new ≡ devices.old }
+{
+    match held_port(kernel, owner, port) {
+        None => CallOut::Fail(FailKind::Port),
+        Some(number) => {
+            devices.port_out(number, v);
+            CallOut::Said(Saying::Out(number, v))
+        }
+    }
+}

@@ -1,0 +1,72 @@
+//! Calls that print.
+ghost use Rattle.std.specs.Prelude.{◌≡◌, ◌+◌, ◌<◌, ◌^◌, [], ◌∷◌, ◌++◌, length, List, ℕ, IsTrue};
+ghost use Rattle.std.specs.Option.{option_map};
+ghost use Rattle.byte_memory.specs.Tested.{is_inside};
+ghost use Rattle.wrappers.specs.Rows as row;
+ghost use Rattle.wrappers.specs.Text as text;
+
+use crate::{CallOut, Saying, TextBytes};
+use byte_memory::Tested;
+
+/// A text of no bytes.
+const NO_TEXT: TextBytes = TextBytes {
+    bytes: [0; 32],
+    len: 0,
+    more: false,
+};
+
+/// Puts one more byte behind those of a text: it is told, or where 32 are told already, that there are more.
+fn put(told: &mut TextBytes, byte: u8)
+    ensures { (front : List ℕ) → told.old ≡ text.told front → length front < 33 → told.new ≡ text.told (front ++ byte ∷ []) }
+{
+    let at = usize::from(told.len);
+    if at < 32 {
+        told.bytes[at] = byte;
+        told.len += 1;
+    } else {
+        told.more = true;
+    }
+}
+
+/// The byte at an address.
+fn byte_at(memory: &Tested, at: u32) -> u8
+    requires { IsTrue (is_inside memory.now at 1) }
+    ensures { result ≡ text.byte_at memory.now at }
+{
+    memory.view(at, 1).first().copied().unwrap_or(0)
+}
+
+/// What is told of the text from an address on: at most 33 bytes are read, up to the first 0. None where one of them is not inside.
+fn text_at(memory: &Tested, from: u32) -> Option<TextBytes>
+    requires { length memory.now.bytes < 2 ^ 32 }
+    ensures { result ≡ option_map text.told (text.text_from memory.now 33 from) }
+{
+    let mut told = NO_TEXT;
+    let mut at = from;
+    for _i in 0..33 {
+        if !memory.inside(at, 1) {
+            return None;
+        }
+        let byte = byte_at(memory, at);
+        if byte == 0 {
+            return Some(told);
+        }
+        put(&mut told, byte);
+        at += 1;
+    }
+    Some(told)
+}
+
+/// `prints(s)`: the text is printed, nothing of it for null.
+pub fn prints(memory: &Tested, s: u32) -> CallOut
+    requires { length memory.now.bytes < 2 ^ 32 }
+    ensures { result ≡ (row.prints memory.now s).out }
+{
+    if s == 0 {
+        return CallOut::Said(Saying::Text(NO_TEXT));
+    }
+    match text_at(memory, s) {
+        None => CallOut::Wild,
+        Some(told) => CallOut::Said(Saying::Text(told)),
+    }
+}

@@ -16,9 +16,9 @@ use Rattle.checked_tree.specs.Numbers.{converted}
 use Rattle.checked_tree.specs.Operands.{null}
 use Rattle.device_model.specs.Scripted.{Scripted}
 use Rattle.std.specs.List.{range_with_len}
-use Rattle.wrappers.specs.declared.call_out.CallOut.TheVariants.{Wild}
+use Rattle.wrappers.specs.declared.call_out.CallOut.TheVariants.{Blocked, Wild}
 use Rattle.wrappers.specs.declared.call_out.Saying.TheVariants.{Text, Out}
-use Rattle.wrappers.specs.Served.{Served, gives, replies, bad, busy, full, done, does, says, fails, points, grants, waits}
+use Rattle.wrappers.specs.Served.{Served, gives, replies, bad, busy, full, done, does, says, fails, points, grants}
 use Rattle.wrappers.specs.Text.{text_from, told}
 use Rattle.wrappers.specs.Rows as row
 use Rattle.wrappers.specs.Rows.{served, port_taken, elements, block}
@@ -259,7 +259,7 @@ a_lock_under_a_mask = refl
 a_lock_twice : row.lock some (who 1 1) (pos 3) ≡ fails fail.Relock
 a_lock_twice = refl
 
-a_lock_of_another_task : row.lock some (who 1 2) (pos 3) ≡ waits (pos 3)
+a_lock_of_another_task : row.lock some (who 1 2) (pos 3) ≡ gives (Blocked (pos 3))
 a_lock_of_another_task = refl
 
 a_free_lock : row.lock some (who 1 1) (pos 63) ≡ does (update.Lock (pos 63) 1)
@@ -317,20 +317,20 @@ memory = record {
   granted = record { base = 16; size = 64 } ∷ [];
 }
 
-unfolding (text_from, bytes_at)
 a_short_text : row.prints memory 16 ≡ says (Text (told (65 ∷ 66 ∷ 67 ∷ [])))
+unfolding text_from bytes_at
 a_short_text = refl
 
-unfolding (text_from, bytes_at)
 a_text_of_32 : row.prints memory 20 ≡ says (Text (record { bytes = replicate 32 88; len = 32; more = false }))
+unfolding text_from bytes_at
 a_text_of_32 = refl
 
-unfolding (text_from, bytes_at)
 a_text_without_an_end : row.prints memory 53 ≡ gives Wild
+unfolding text_from bytes_at
 a_text_without_an_end = refl
 
-unfolding (text_from, bytes_at)
 a_text_outside : row.prints memory 12 ≡ gives Wild
+unfolding text_from bytes_at
 a_text_outside = refl
 
 no_text : row.prints memory 0 ≡ says (Text (record { bytes = replicate 32 0; len = 0; more = false }))
@@ -344,27 +344,27 @@ a_text_of_33 = refl
 abbrev call : KernelName → ℤ → KernelCall
 call name arg = record { name = name; args = arg ∷ pos 0 ∷ pos 0 ∷ pos 0 ∷ []; function = 0; elem = 0; size = 0; pointer = null }
 
-unfolding (served, kernel_row, converted)
 a_handler's_lock : served 1 some memory devices (who 1 0) (call kernel.Lock (pos 64)) ≡ fails fail.Context
+unfolding served kernel_row converted
 a_handler's_lock = refl
 
-unfolding (served, kernel_row, converted)
 a_task's_lock : served 1 some memory devices (who 1 1) (call kernel.Lock (pos 64)) ≡ fails fail.Lock
+unfolding served kernel_row converted
 a_task's_lock = refl
 
-unfolding (served, kernel_row, converted)
 a_handler's_read : served 1 some memory devices (who 1 0) (call kernel.PortIn (pos 16)) ≡ replies (pos 65)
+unfolding served kernel_row converted
 a_handler's_read = refl
 
 -- an argument is taken modulo 2^32
-unfolding (served, kernel_row, converted)
 a_wide_argument : served 1 some memory devices (who 1 0) (call kernel.PortIn (pos 4294967312)) ≡ replies (pos 65)
+unfolding served kernel_row converted
 a_wide_argument = refl
 
-unfolding (port_taken, converted)
 a_read_takes_an_answer : port_taken some (who 1 0) (call kernel.PortIn (pos 19)) ≡ Some 19
+unfolding port_taken converted
 a_read_takes_an_answer = refl
 
-unfolding (port_taken, converted)
 a_write_takes_none : port_taken some (who 1 0) (call kernel.PortOut (pos 19)) ≡ None
+unfolding port_taken converted
 a_write_takes_none = refl

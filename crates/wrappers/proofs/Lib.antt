@@ -1,4 +1,6 @@
 pub mod Tracking
 pub mod Rules
 pub mod Told
+pub mod Held
+pub mod Called
 pub mod Examples

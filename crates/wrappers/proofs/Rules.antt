@@ -28,7 +28,7 @@ free_few u true false true = refl
 free_few u true false false = refl
 free_few u false b c = refl
 
-few : (u : Update) (a b : Bool) → by_refusal u (cond a (cond b None (Some Full)) (Some Bad)) ≡ cond (not a) bad (cond (not b) full (does u))
+pub few : (u : Update) (a b : Bool) → by_refusal u (cond a (cond b None (Some Full)) (Some Bad)) ≡ cond (not a) bad (cond (not b) full (does u))
 few u true true = refl
 few u true false = refl
 few u false b = refl

@@ -1,10 +1,12 @@
 -- A text is told byte by byte, and what is told goes with what was read.
-use Rattle.std.proofs.Common.{◌≡◌, ℕ, zero, suc, ◌+◌, ◌-◌, ◌<◌, ◌≤◌, Bool, true, false, cond, eqb, ltb, List, [], ◌∷◌, ◌++◌, length, take, set, replicate, refl, ap, sym, ◌∙◌, subst, arith, length-append, append_assoc}
+use Rattle.std.proofs.Common.{◌≡◌, ℕ, zero, suc, ◌+◌, ◌-◌, ◌<◌, ◌≤◌, Bool, true, false, cond, eqb, ltb, List, [], ◌∷◌, ◌++◌, length, take, set, replicate, Option, Some, None, refl, ap, sym, ◌∙◌, subst, arith, length-append, append_assoc}
 use Rattle.std.proofs.lemmas.List.{take-append-le}
+use Rattle.std.specs.Option.{option_map}
 use Rattle.std.proofs.lemmas.Bool.Decides.{nat_tests}
 use Rattle.sd_base.specs.Padded.{padded}
 use Rattle.wrappers.specs.declared.call_out.TextBytes.{TextBytes}
-use Rattle.wrappers.specs.Text.{told}
+use Rattle.byte_memory.specs.Tested.{Memory, is_inside}
+use Rattle.wrappers.specs.Text.{told, text_from, behind, byte_at}
 
 take_all : (n : ℕ) (xs : List ℕ) → length xs ≤ n → take n xs ≡ xs
 take_all zero [] h = refl
@@ -51,3 +53,80 @@ told-past front byte full =
     let long : length (front ++ byte ∷ []) ≡ 33 = length-append front (byte ∷ []) ∙ ap (λ n. n + 1) full in
     let more : ltb 32 (length (front ++ byte ∷ [])) ≡ true = ap (ltb 32) long in
     rw cut (rw more refl)
+
+-- The walk through a text: these bytes were read, what is told of them is so, and the text is they and what is read from here on.
+pub record Going (memory : Memory) (from i at : ℕ) (now : TextBytes) : Type 0 where
+  pub front : List ℕ
+  pub shown : now ≡ told front
+  pub long : length front ≡ i
+  pub rest : text_from memory 33 from ≡ option_map (λ more. front ++ more) (text_from memory (33 - i) at)
+
+none_before : (o : Option (List ℕ)) → o ≡ option_map (λ more. [] ++ more) o
+none_before None = refl
+none_before (Some text) = refl
+
+pub going_first : (memory : Memory) (from : ℕ) → Going memory from 0 from (told [])
+going_first memory from = record { front = []; shown = refl; long = refl; rest = none_before (text_from memory 33 from) }
+
+read_one : (memory : Memory) (n at : ℕ) → text_from memory (suc n) at ≡ cond (is_inside memory at 1) (behind (byte_at memory at) (text_from memory n (at + 1))) None
+unfolding text_from
+read_one memory n at = refl
+
+read_none : (memory : Memory) (at : ℕ) → text_from memory 0 at ≡ Some []
+unfolding text_from
+read_none memory at = refl
+
+joined : (front : List ℕ) (byte : ℕ) (o : Option (List ℕ)) → option_map (λ more. front ++ more) (option_map (λ more. byte ∷ more) o) ≡ option_map (λ more. (front ++ byte ∷ []) ++ more) o
+joined front byte None = refl
+joined front byte (Some text) = ap (λ xs. Some xs) (sym (append_assoc front (byte ∷ []) text))
+
+-- one more byte that is inside
+read_inside : (memory : Memory) (from i at : ℕ) (now : TextBytes) (g : Going memory from i at now) → i < 33 → is_inside memory at 1 ≡ true →
+    text_from memory 33 from ≡ option_map (λ more. g.front ++ more) (behind (byte_at memory at) (text_from memory (33 - (i + 1)) (at + 1)))
+read_inside memory from i at now g short inside =
+    let left : 33 - i ≡ suc (33 - (i + 1)) = omega arith in
+    g.rest ∙ ap (λ n. option_map (λ more. g.front ++ more) (text_from memory n at)) left
+    ∙ ap (option_map (λ more. g.front ++ more)) (read_one memory (33 - (i + 1)) at
+        ∙ ap (λ b. cond b (behind (byte_at memory at) (text_from memory (33 - (i + 1)) (at + 1))) None) inside)
+
+pub going_next : (memory : Memory) (from i at byte : ℕ) (now next : TextBytes) → Going memory from i at now → i < 33 → is_inside memory at 1 ≡ true → byte ≡ byte_at memory at → eqb byte 0 ≡ false →
+    ((front : List ℕ) → now ≡ told front → length front < 33 → next ≡ told (front ++ byte ∷ [])) → Going memory from (i + 1) (at + 1) next
+going_next memory from i at byte now next g short inside is some put =
+    let long = g.long in
+    record {
+      front = g.front ++ byte ∷ [];
+      shown = put g.front g.shown (omega arith);
+      long = length-append g.front (byte ∷ []) ∙ ap (λ n. n + 1) g.long;
+      rest = read_inside memory from i at now g short inside
+          ∙ ap (λ b. option_map (λ more. g.front ++ more) (behind b (text_from memory (33 - (i + 1)) (at + 1)))) (sym is)
+          ∙ ap (λ b. option_map (λ more. g.front ++ more) (cond b (Some []) (option_map (λ more. byte ∷ more) (text_from memory (33 - (i + 1)) (at + 1))))) some
+          ∙ joined g.front byte (text_from memory (33 - (i + 1)) (at + 1));
+    }
+
+pub going_outside : (memory : Memory) (from i at : ℕ) (now : TextBytes) → Going memory from i at now → i < 33 → is_inside memory at 1 ≡ false → None ≡ option_map told (text_from memory 33 from)
+going_outside memory from i at now g short outside =
+    let left : 33 - i ≡ suc (33 - (i + 1)) = omega arith in
+    sym (ap (option_map told) (g.rest ∙ ap (λ n. option_map (λ more. g.front ++ more) (text_from memory n at)) left
+        ∙ ap (option_map (λ more. g.front ++ more)) (read_one memory (33 - (i + 1)) at
+            ∙ ap (λ b. cond b (behind (byte_at memory at) (text_from memory (33 - (i + 1)) (at + 1))) None) outside)))
+
+no_more : (front : List ℕ) (now : TextBytes) → now ≡ told front → Some now ≡ option_map told (option_map (λ more. front ++ more) (Some []))
+no_more front now is = ap (λ t. Some t) (is ∙ ap told (sym (append-none front)))
+  where
+    append-none : (xs : List ℕ) → xs ++ [] ≡ xs
+    append-none [] = refl
+    append-none (x ∷ xs) = ap (λ ys. x ∷ ys) (append-none xs)
+
+pub going_end : (memory : Memory) (from i at byte : ℕ) (now : TextBytes) → Going memory from i at now → i < 33 → is_inside memory at 1 ≡ true → byte ≡ byte_at memory at → eqb byte 0 ≡ true →
+    Some now ≡ option_map told (text_from memory 33 from)
+going_end memory from i at byte now g short inside is end =
+    no_more g.front now g.shown
+    ∙ sym (ap (option_map told) (read_inside memory from i at now g short inside
+        ∙ ap (λ b. option_map (λ more. g.front ++ more) (behind b (text_from memory (33 - (i + 1)) (at + 1)))) (sym is)
+        ∙ ap (λ b. option_map (λ more. g.front ++ more) (cond b (Some []) (option_map (λ more. byte ∷ more) (text_from memory (33 - (i + 1)) (at + 1))))) end))
+
+pub going_past : (memory : Memory) (from i at : ℕ) (now : TextBytes) → Going memory from i at now → 33 ≤ i → Some now ≡ option_map told (text_from memory 33 from)
+going_past memory from i at now g past =
+    let left : 33 - i ≡ 0 = omega arith in
+    no_more g.front now g.shown
+    ∙ sym (ap (option_map told) (g.rest ∙ ap (λ n. option_map (λ more. g.front ++ more) (text_from memory n at)) left ∙ ap (option_map (λ more. g.front ++ more)) (read_none memory at)))

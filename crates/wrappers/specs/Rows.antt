@@ -24,9 +24,10 @@ use Rattle.checked_tree.specs.declared.kernel.KernelCall.{KernelCall}
 use Rattle.checked_tree.specs.declared.shapes.Scalar.TheVariants.{I32}
 use Rattle.checked_tree.specs.Numbers.{converted}
 use Rattle.checked_tree.specs.Operands.{null}
-use Rattle.wrappers.specs.declared.call_out.CallOut.TheVariants.{Wild}
+use Rattle.wrappers.specs.declared.call_out.CallOut.{CallOut}
+use Rattle.wrappers.specs.declared.call_out.CallOut.TheVariants.{Blocked, Fail, Wild}
 use Rattle.wrappers.specs.declared.call_out.Saying.TheVariants.{Print, Text, Out}
-use Rattle.wrappers.specs.Served.{Served, gives, replies, bad, busy, full, done, does, says, fails, points, grants, waits}
+use Rattle.wrappers.specs.Served.{Served, gives, replies, bad, busy, full, done, does, says, fails, points, grants}
 use Rattle.wrappers.specs.Text.{text_from, told}
 use Rattle.wrappers.specs.Contexts.{may_call}
 
@@ -53,13 +54,16 @@ abbrev pub elements : ℕ → ℕ → Layout
 elements elem size = record { elem = elem; size = size; nullterm = false }
 
 abbrev pub block : ℕ → ℕ → ℕ → Fat
-block base size n = record { value = base; lo = base; hi = base + n * size }
+block base size n = record { value = base; lo = base; hi = base + size * n }
+
+abbrev pub allocates : History → ℕ → ℕ → ℕ → ℤ → Served
+allocates h owner elem size n = grants (block (next_base (granted h owner)) size (count_of n)) (update.Grant (elements elem size) n false)
 
 abbrev pub kalloc : History → ℕ → ℕ → ℕ → ℤ → Served
 kalloc h owner elem size n =
     cond (eqb size 0) (points null)
     (cond (not (has_room (granted h owner) (elements elem size) n)) (points null)
-    (grants (block (next_base (granted h owner)) size (count_of n)) (update.Grant (elements elem size) n false)))
+    (allocates h owner elem size n))
 
 -- kfree(p): nothing for null; Free where p is no block that the caller allocated, or one that it gave back
 
@@ -176,10 +180,13 @@ get_param h k =
 abbrev pub is_distance : ℤ → Bool
 is_distance d = int_le (pos 1) d && int_le d (pos 1000000)
 
+abbrev pub has_timer_left : History → ℕ → ℤ → Bool
+has_timer_left h owner i = list_any (is_of owner (timer_key i)) (live_of h) || ltb (count_by (is_of_kind owner OfTimers) (live_of h)) 64
+
 abbrev pub set_timer : History → ℕ → ℤ → ℤ → ℕ → ℤ → Served
 set_timer h owner i d handler a =
     cond (not (is_below 256 i && is_distance d)) bad
-    (cond (not (list_any (is_of owner (timer_key i)) (live_of h) || ltb (count_by (is_of_kind owner OfTimers) (live_of h)) 64)) full
+    (cond (not (has_timer_left h owner i)) full
     (does (update.Timer i (clock_of h + nat_abs d) handler a)))
 
 -- del_timer(i): -22 where the caller has no live i
@@ -197,12 +204,12 @@ now h = replies (pos (clock_of h))
 -- lock(k): in a handler Context; Lock where k is not 0 to 63; Masked where the activity holds its mask; Relock where it holds k; it waits
 -- where another activity holds k; else it takes k
 
-abbrev pub held : Who → ℤ → Who → Served
-held who k holder = cond (is_who who holder) (fails fail.Relock) (waits k)
+abbrev pub held : Who → ℤ → Who → CallOut
+held who k holder = cond (is_who who holder) (Fail fail.Relock) (Blocked k)
 
 abbrev pub by_holder : Who → ℤ → Option Who → Served
 by_holder who k None = does (update.Lock k who.task)
-by_holder who k (Some holder) = held who k holder
+by_holder who k (Some holder) = gives (held who k holder)
 
 abbrev pub holds_mask : History → Who → Bool
 holds_mask h who = list_any (is_of who.owner (mask_key who.task)) (live_of h)
@@ -267,46 +274,48 @@ int_at call place = converted I32 (slice_index_or call.args place (pos 0))
 abbrev pub count_at : KernelCall → ℤ
 count_at call = slice_index_or call.args 0 (pos 0)
 
--- what a call of this name comes to
-abbrev pub row_of : KernelName → ℕ → History → Memory → Scripted → Who → KernelCall → Served
-row_of kernel.Printd share h memory devices who call = printd (int_at call 0)
-row_of kernel.Prints share h memory devices who call = prints memory call.pointer.value
-row_of kernel.Kalloc share h memory devices who call = kalloc h who.owner call.elem call.size (count_at call)
-row_of kernel.Kfree share h memory devices who call = kfree h who.owner call.pointer.value
-row_of kernel.RequestLine share h memory devices who call = request_line share h who.owner (int_at call 0) call.function
-row_of kernel.FreeLine share h memory devices who call = free_line h who.owner (int_at call 0)
-row_of kernel.RequestPorts share h memory devices who call = request_ports h who.owner (int_at call 0) (int_at call 1)
-row_of kernel.ReleasePorts share h memory devices who call = release_ports h who.owner (int_at call 0) (int_at call 1)
-row_of kernel.PortIn share h memory devices who call = port_in h devices who.owner (int_at call 0)
-row_of kernel.PortOut share h memory devices who call = port_out h who.owner (int_at call 0) (int_at call 1)
-row_of kernel.AddDevice share h memory devices who call = add_device h who.owner (int_at call 0)
-row_of kernel.DelDevice share h memory devices who call = del_device h who.owner (int_at call 0)
-row_of kernel.SetParam share h memory devices who call = set_param h who.owner (int_at call 0) (int_at call 1)
-row_of kernel.ClearParam share h memory devices who call = clear_param h who.owner (int_at call 0)
-row_of kernel.GetParam share h memory devices who call = get_param h (int_at call 0)
-row_of kernel.SetTimer share h memory devices who call = set_timer h who.owner (int_at call 0) (int_at call 1) call.function (int_at call 2)
-row_of kernel.DelTimer share h memory devices who call = del_timer h who.owner (int_at call 0)
-row_of kernel.Now share h memory devices who call = now h
-row_of kernel.Lock share h memory devices who call = lock h who (int_at call 0)
-row_of kernel.Unlock share h memory devices who call = unlock h who (int_at call 0)
-row_of kernel.Mask share h memory devices who call = mask h who
-row_of kernel.Unmask share h memory devices who call = unmask h who
-row_of kernel.Hold share h memory devices who call = hold h who.owner (int_at call 0)
-row_of kernel.DropHold share h memory devices who call = drop_hold h who.owner (int_at call 0)
-row_of kernel.QueueWork share h memory devices who call = queue_work h who.owner call.function (int_at call 0)
+-- what a call of this name comes to, with these numbers as its arguments
+abbrev pub row_of : KernelName → ℕ → History → Memory → Scripted → Who → KernelCall → ℤ → ℤ → ℤ → Served
+row_of kernel.Printd share h memory devices who call a b c = printd a
+row_of kernel.Prints share h memory devices who call a b c = prints memory call.pointer.value
+row_of kernel.Kalloc share h memory devices who call a b c = kalloc h who.owner call.elem call.size (count_at call)
+row_of kernel.Kfree share h memory devices who call a b c = kfree h who.owner call.pointer.value
+row_of kernel.RequestLine share h memory devices who call a b c = request_line share h who.owner a call.function
+row_of kernel.FreeLine share h memory devices who call a b c = free_line h who.owner a
+row_of kernel.RequestPorts share h memory devices who call a b c = request_ports h who.owner a b
+row_of kernel.ReleasePorts share h memory devices who call a b c = release_ports h who.owner a b
+row_of kernel.PortIn share h memory devices who call a b c = port_in h devices who.owner a
+row_of kernel.PortOut share h memory devices who call a b c = port_out h who.owner a b
+row_of kernel.AddDevice share h memory devices who call a b c = add_device h who.owner a
+row_of kernel.DelDevice share h memory devices who call a b c = del_device h who.owner a
+row_of kernel.SetParam share h memory devices who call a b c = set_param h who.owner a b
+row_of kernel.ClearParam share h memory devices who call a b c = clear_param h who.owner a
+row_of kernel.GetParam share h memory devices who call a b c = get_param h a
+row_of kernel.SetTimer share h memory devices who call a b c = set_timer h who.owner a b call.function c
+row_of kernel.DelTimer share h memory devices who call a b c = del_timer h who.owner a
+row_of kernel.Now share h memory devices who call a b c = now h
+row_of kernel.Lock share h memory devices who call a b c = lock h who a
+row_of kernel.Unlock share h memory devices who call a b c = unlock h who a
+row_of kernel.Mask share h memory devices who call a b c = mask h who
+row_of kernel.Unmask share h memory devices who call a b c = unmask h who
+row_of kernel.Hold share h memory devices who call a b c = hold h who.owner a
+row_of kernel.DropHold share h memory devices who call a b c = drop_hold h who.owner a
+row_of kernel.QueueWork share h memory devices who call a b c = queue_work h who.owner call.function a
 
 -- what a call comes to: Context where its row does not let a handler make it, else what the row says
 unfoldable pub served : ℕ → History → Memory → Scripted → Who → KernelCall → Served
 served share h memory devices who call =
-    cond (may_call call.name who.task) (row_of call.name share h memory devices who call) (fails fail.Context)
+    cond (may_call call.name who.task)
+    (row_of call.name share h memory devices who call (int_at call 0) (int_at call 1) (int_at call 2))
+    (fails fail.Context)
 
 -- the port whose oldest answer a call takes, if it takes one
-abbrev pub port_by : KernelName → History → Who → KernelCall → Option ℕ
-port_by kernel.PortIn h who call = port_of h who.owner (int_at call 0)
-port_by _ h who call = None
+abbrev pub port_by : KernelName → History → Who → ℤ → Option ℕ
+port_by kernel.PortIn h who a = port_of h who.owner a
+port_by _ h who a = None
 
 unfoldable pub port_taken : History → Who → KernelCall → Option ℕ
-port_taken h who call = port_by call.name h who call
+port_taken h who call = port_by call.name h who (int_at call 0)
 
 -- the devices without the oldest answer of a port, if one is named
 abbrev pub without_answer : Option ℕ → Scripted → Scripted

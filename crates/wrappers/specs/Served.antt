@@ -6,7 +6,7 @@ use Rattle.sd_base.specs.declared.history.Update.{Update}
 use Rattle.sd_base.specs.declared.kinds.FailKind.{FailKind}
 use Rattle.sd_base.specs.History.{History, entry}
 use Rattle.wrappers.specs.declared.call_out.CallOut.{CallOut}
-use Rattle.wrappers.specs.declared.call_out.CallOut.TheVariants.{Reply, Pointer, Said, Blocked, Fail}
+use Rattle.wrappers.specs.declared.call_out.CallOut.TheVariants.{Reply, Pointer, Said, Fail}
 use Rattle.wrappers.specs.declared.call_out.Saying.{Saying}
 
 -- what the caller is told, and the one update that the history gains, if any
@@ -57,10 +57,6 @@ points p = gives (Pointer p)
 -- a block is granted, and a pointer to it given
 abbrev pub grants : Fat → Update → Served
 grants p u = record { out = Pointer p; update = Some u }
-
--- the caller waits for this lock
-abbrev pub waits : ℤ → Served
-waits k = gives (Blocked k)
 
 -- the history with an owner's update, if there is one
 abbrev pub with_update : ℕ → Option Update → History → History

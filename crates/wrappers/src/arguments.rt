@@ -1,5 +1,5 @@
 //! The arguments of a kernel call.
-ghost use Rattle.std.specs.Prelude.{◌≡◌, pos, slice_index_or};
+ghost use Rattle.std.specs.Prelude.{◌≡◌};
 ghost use Rattle.checked_tree.specs.Numbers.{converted};
 ghost use Rattle.checked_tree.specs.declared.shapes.Scalar.TheVariants.{I32};
 

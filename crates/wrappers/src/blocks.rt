@@ -1,5 +1,6 @@
 //! Calls that allocate blocks and give them back.
-ghost use Rattle.std.specs.Prelude.{◌≡◌, ◌<◌, ◌≤◌, ◌+◌, ◌*◌};
+ghost use Rattle.std.specs.Prelude.{◌≡◌, ℕ, ◌<◌, ◌≤◌, ◌+◌, ◌*◌, ◌^◌, pos};
+ghost use Rattle.update_tracker.specs.declared.undo.Reply.TheVariants.{Base};
 ghost use Rattle.wrappers.specs.Rows as row;
 ghost use Rattle.wrappers.specs.Serving.{ServesRow, IsStop};
 
@@ -17,13 +18,23 @@ const NULL: Fat = Fat {
 /// A pointer to the first of `n` elements of this size from `base` on, bounded by them. A block that was granted ends within the arena, so
 /// nothing saturates.
 fn block(base: u32, size: u32, n: i64) -> Fat
-    ensures { (count : ℕ) → n ≡ pos count → count < 2 ^ 32 → base + count * size < 2 ^ 32 → result ≡ row.block base size count }
+    ensures { (count : ℕ) → n ≡ pos count → count < 2 ^ 32 → base + size * count < 2 ^ 32 → result ≡ row.block base size count }
 {
     let count = u32::try_from(n).unwrap_or(0);
     Fat {
         value: base,
         lo: base,
-        hi: base.saturating_add(count.saturating_mul(size)),
+        hi: base.saturating_add(size.saturating_mul(count)),
+    }
+}
+
+/// The pointer that a grant of `n` elements of this size is answered with.
+fn pointer(reply: Reply, size: u32, n: i64) -> Fat
+    ensures { (base count : ℕ) → reply ≡ Base base → n ≡ pos count → count < 2 ^ 32 → base + size * count < 2 ^ 32 → result ≡ row.block base size count }
+{
+    match reply {
+        Reply::Base(base) => block(base, size, n),
+        Reply::Done => NULL,
     }
 }
 
@@ -34,6 +45,7 @@ pub fn kalloc(kernel: &mut Tracked, owner: u8, elem: u32, size: u32, n: i64) -> 
     ensures serves { ServesRow kernel.old owner (λ share h. row.kalloc h owner elem size n) result kernel.new }
     ensures share { kernel.new.kernel.claims.share ≡ kernel.old.kernel.claims.share }
     ensures undone { kernel.new.undone ≡ kernel.old.undone }
+    ensures stopped { IsStop result (kernel.new ≡ kernel.old) }
 {
     if size == 0 {
         return CallOut::Pointer(NULL);
@@ -51,8 +63,8 @@ pub fn kalloc(kernel: &mut Tracked, owner: u8, elem: u32, size: u32, n: i64) -> 
             image: false,
         },
     ) {
-        Ok(Reply::Base(base)) => CallOut::Pointer(block(base, size, n)),
-        _ => CallOut::Pointer(NULL),
+        Ok(reply) => CallOut::Pointer(pointer(reply, size, n)),
+        Err(_) => CallOut::Pointer(NULL),
     }
 }
 

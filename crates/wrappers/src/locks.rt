@@ -1,5 +1,6 @@
 //! Calls that take locks and let go of them.
 ghost use Rattle.std.specs.Prelude.{◌≡◌, ◌<◌, ◌≤◌};
+ghost use Rattle.wrappers.specs.Replies as replies;
 ghost use Rattle.wrappers.specs.Rows as row;
 ghost use Rattle.wrappers.specs.Serving.{ServesRow, IsStop};
 
@@ -13,12 +14,32 @@ const LOCK_NUMBERS: u16 = LOCKS as u16;
 
 /// What a caller of `lock` meets at a lock that this activity holds.
 fn held(who: Who, lock: i32, holder: Who) -> CallOut
-    ensures { result ≡ (row.held who lock holder).out }
+    ensures { result ≡ row.held who lock holder }
 {
     if holder == who {
         CallOut::Fail(FailKind::Relock)
     } else {
         CallOut::Blocked(lock)
+    }
+}
+
+/// What a refusal to take a lock comes to.
+fn not_taken(who: Who, lock: i32, refusal: Refusal) -> CallOut
+    ensures { result ≡ replies.not_taken who lock refusal }
+{
+    match refusal {
+        Refusal::HeldBy(holder) => held(who, lock, holder),
+        _ => CallOut::Fail(FailKind::Lock),
+    }
+}
+
+/// What a refusal to let go of a lock comes to.
+fn not_let_go(refusal: Refusal) -> CallOut
+    ensures { result ≡ replies.not_let_go refusal }
+{
+    match refusal {
+        Refusal::Unheld => CallOut::Fail(FailKind::Unheld),
+        _ => CallOut::Fail(FailKind::Lock),
     }
 }
 
@@ -32,9 +53,9 @@ pub fn lock(kernel: &mut Tracked, who: Who, lock: i32) -> CallOut
     ensures undone { kernel.new.undone ≡ kernel.old.undone }
     ensures stopped { IsStop result (kernel.new ≡ kernel.old) }
 {
-    if number_below(lock, LOCK_NUMBERS).is_none() {
+    let Some(_number) = number_below(lock, LOCK_NUMBERS) else {
         return CallOut::Fail(FailKind::Lock);
-    }
+    };
     if kernel.kernel().shares.holds_mask(who) {
         return CallOut::Fail(FailKind::Masked);
     }
@@ -46,8 +67,7 @@ pub fn lock(kernel: &mut Tracked, who: Who, lock: i32) -> CallOut
         },
     ) {
         Ok(_) => CallOut::Reply(0),
-        Err(Refusal::HeldBy(holder)) => held(who, lock, holder),
-        Err(_) => CallOut::Fail(FailKind::Lock),
+        Err(refusal) => not_taken(who, lock, refusal),
     }
 }
 
@@ -69,7 +89,6 @@ pub fn unlock(kernel: &mut Tracked, who: Who, lock: i32) -> CallOut
         },
     ) {
         Ok(_) => CallOut::Reply(0),
-        Err(Refusal::Unheld) => CallOut::Fail(FailKind::Unheld),
-        Err(_) => CallOut::Fail(FailKind::Lock),
+        Err(refusal) => not_let_go(refusal),
     }
 }

@@ -3,6 +3,7 @@ ghost use Rattle.std.specs.Prelude.{◌≡◌, ◌+◌, ◌<◌, ◌^◌, [], �
 ghost use Rattle.std.specs.Option.{option_map};
 ghost use Rattle.byte_memory.specs.Tested.{is_inside};
 ghost use Rattle.wrappers.specs.Rows as row;
+ghost use Rattle.wrappers.specs.Serving.{IsRead};
 ghost use Rattle.wrappers.specs.Text as text;
 
 use crate::{CallOut, Saying, TextBytes};
@@ -15,16 +16,24 @@ const NO_TEXT: TextBytes = TextBytes {
     more: false,
 };
 
-/// Puts one more byte behind those of a text: it is told, or where 32 are told already, that there are more.
-fn put(told: &mut TextBytes, byte: u8)
-    ensures { (front : List ℕ) → told.old ≡ text.told front → length front < 33 → told.new ≡ text.told (front ++ byte ∷ []) }
+/// What is told of a text with one more byte: the byte, or where 32 are told already, that there are more.
+fn with_byte(told: TextBytes, byte: u8) -> TextBytes
+    ensures { (front : List ℕ) → told ≡ text.told front → length front < 33 → result ≡ text.told (front ++ byte ∷ []) }
 {
     let at = usize::from(told.len);
-    if at < 32 {
-        told.bytes[at] = byte;
-        told.len += 1;
-    } else {
-        told.more = true;
+    if at >= 32 {
+        return TextBytes {
+            bytes: told.bytes,
+            len: told.len,
+            more: true,
+        };
+    }
+    let mut bytes = told.bytes;
+    bytes[at] = byte;
+    TextBytes {
+        bytes,
+        len: told.len + 1,
+        more: told.more,
     }
 }
 
@@ -51,7 +60,7 @@ fn text_at(memory: &Tested, from: u32) -> Option<TextBytes>
         if byte == 0 {
             return Some(told);
         }
-        put(&mut told, byte);
+        told = with_byte(told, byte);
         at += 1;
     }
     Some(told)
@@ -60,7 +69,7 @@ fn text_at(memory: &Tested, from: u32) -> Option<TextBytes>
 /// `prints(s)`: the text is printed, nothing of it for null.
 pub fn prints(memory: &Tested, s: u32) -> CallOut
     requires { length memory.now.bytes < 2 ^ 32 }
-    ensures { result ≡ (row.prints memory.now s).out }
+    ensures { IsRead (row.prints memory.now s) result }
 {
     if s == 0 {
         return CallOut::Said(Saying::Text(NO_TEXT));

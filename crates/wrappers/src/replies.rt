@@ -1,7 +1,7 @@
 //! What the tracker's answer to an update comes to, where it is a number that the driver gets.
 ghost use Rattle.std.specs.Prelude.{◌≡◌, true};
 ghost use Rattle.sd_base.specs.Allowed.{is_proper, refusal};
-ghost use Rattle.wrappers.specs.Serving.{ServesRow};
+ghost use Rattle.wrappers.specs.Serving.{IsStop, ServesRow};
 ghost use Rattle.wrappers.specs.Replies.{number_for, by_refusal};
 
 use crate::CallOut;
@@ -32,6 +32,7 @@ pub fn made(kernel: &mut Tracked, owner: u8, update: Update) -> CallOut
     ensures serves { ServesRow kernel.old owner (λ share h. by_refusal update (refusal share h owner update)) result kernel.new }
     ensures share { kernel.new.kernel.claims.share ≡ kernel.old.kernel.claims.share }
     ensures undone { kernel.new.undone ≡ kernel.old.undone }
+    ensures stopped { IsStop result (kernel.new ≡ kernel.old) }
 {
     match kernel.update(owner, update) {
         Ok(_) => CallOut::Reply(0),

@@ -1,7 +1,7 @@
 //! Calls that hold power domains and that queue work.
 ghost use Rattle.std.specs.Prelude.{◌≡◌, ◌<◌, ◌≤◌};
 ghost use Rattle.wrappers.specs.Rows as row;
-ghost use Rattle.wrappers.specs.Serving.{ServesRow};
+ghost use Rattle.wrappers.specs.Serving.{IsStop, ServesRow};
 
 use crate::CallOut;
 use crate::replies::made;
@@ -15,6 +15,7 @@ pub fn hold(kernel: &mut Tracked, owner: u8, domain: i32) -> CallOut
     ensures serves { ServesRow kernel.old owner (λ share h. row.hold h owner domain) result kernel.new }
     ensures share { kernel.new.kernel.claims.share ≡ kernel.old.kernel.claims.share }
     ensures undone { kernel.new.undone ≡ kernel.old.undone }
+    ensures stopped { IsStop result (kernel.new ≡ kernel.old) }
 {
     made(kernel, owner, Update::Hold { domain })
 }
@@ -26,6 +27,7 @@ pub fn drop_hold(kernel: &mut Tracked, owner: u8, domain: i32) -> CallOut
     ensures serves { ServesRow kernel.old owner (λ share h. row.drop_hold h owner domain) result kernel.new }
     ensures share { kernel.new.kernel.claims.share ≡ kernel.old.kernel.claims.share }
     ensures undone { kernel.new.undone ≡ kernel.old.undone }
+    ensures stopped { IsStop result (kernel.new ≡ kernel.old) }
 {
     made(kernel, owner, Update::DropHold { domain })
 }
@@ -37,6 +39,7 @@ pub fn queue_work(kernel: &mut Tracked, owner: u8, handler: u32, arg: i32) -> Ca
     ensures serves { ServesRow kernel.old owner (λ share h. row.queue_work h owner handler arg) result kernel.new }
     ensures share { kernel.new.kernel.claims.share ≡ kernel.old.kernel.claims.share }
     ensures undone { kernel.new.undone ≡ kernel.old.undone }
+    ensures stopped { IsStop result (kernel.new ≡ kernel.old) }
 {
     made(kernel, owner, Update::Work { handler, arg })
 }

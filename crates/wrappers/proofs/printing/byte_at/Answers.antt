@@ -1,0 +1,4 @@
+use Rattle.wrappers.proofs.printing.byte_at.Goals as goal
+
+pub returns : goal.returns
+returns c = ?

@@ -1,0 +1,4 @@
+use Rattle.wrappers.proofs.timers.now.Goals as goal
+
+pub returns : goal.returns
+returns c = ?

@@ -20,15 +20,15 @@ const NO_TEXT: TextBytes = TextBytes {
 fn with_byte(told: TextBytes, byte: u8) -> TextBytes
     ensures { (front : List ℕ) → told ≡ text.told front → length front < 33 → result ≡ text.told (front ++ byte ∷ []) }
 {
+    let mut bytes = told.bytes;
     let at = usize::from(told.len);
     if at >= 32 {
         return TextBytes {
-            bytes: told.bytes,
+            bytes,
             len: told.len,
             more: true,
         };
     }
-    let mut bytes = told.bytes;
     bytes[at] = byte;
     TextBytes {
         bytes,

@@ -2,7 +2,7 @@
 //!
 //! A row is a call: its name, the owner and the task that make it, its three numbers, and one more number that is its handler, the size of
 //! its elements or its pointer; numbers at the end that are 0 are left out. Behind it stands what it comes to. A row `clock N` sets the clock.
-ghost use Rattle.std.specs.Prelude.{◌<◌, ◌^◌, length};
+ghost use Rattle.std.specs.Prelude.{◌≡◌, ◌<◌, ◌^◌, length};
 
 use crate::tracking::new_tracked;
 use byte_memory::Tested;
@@ -537,13 +537,14 @@ const TEXTS: [(u32, Option<(u8, bool)>); 10] = [
     (1_116, None),
 ];
 
-/// Puts a byte at an address that is granted.
-fn put(rt: &impl Abort, memory: &mut Tested, at: u32)
-    requires { length memory.old.bytes < 2 ^ 32 }
+/// Fills these addresses, which are granted, with a byte that is no 0.
+fn fill(rt: &impl Abort, memory: &mut Tested, from: u32, end: u32)
     ensures { length memory.new.bytes ≡ length memory.old.bytes }
 {
-    assert!(rt; memory.inside(at, 1));
-    memory.store(at, 1, 88);
+    for at in from..end {
+        assert!(rt; memory.inside(at, 1));
+        memory.store(at, 1, 88);
+    }
 }
 
 #[test]
@@ -604,10 +605,8 @@ fn texts_of_each_length(rt: HostRuntime) -> Result<(), Fail> {
     let mut memory = Tested::new(rt.alloc(), 2_048)?;
     let mut devices = Devices::new(rt.alloc(), 0)?;
     memory.grant(16, 1_100);
-    for at in 16..1_016 {
-        put(&rt, &mut memory, at);
-    }
-    put(&rt, &mut memory, 1_115);
+    fill(&rt, &mut memory, 16, 1_016);
+    fill(&rt, &mut memory, 1_115, 1_116);
     let who = Who { owner: 1, task: 1 };
     for (at, wanted) in TEXTS {
         let call = call_of(KernelName::Prints, &[1, 1, 0, 0, 0, i64::from(at)]);

@@ -16,10 +16,14 @@ use Rattle.sd_base.specs.Blocks.{Block, next_base, count_of, is_image, is_freed,
 use Rattle.sd_base.specs.Allowed.{free_refusal, held_by, is_lock, is_range, is_astray, refusal, IsLawful}
 use Rattle.sd_base.proofs.Range.{none_astray}
 use Rattle.grant_table.proofs.GrantPartKept.{granted-live_of}
-use Rattle.claim_table.specs.ClaimPart.{holds_port, port_in}
+use Rattle.claim_table.specs.ClaimPart.{holds_port, port_in, values_of}
+use Rattle.device_model.specs.Scripted.{Scripted, answers_of, oldest_or_zero}
+use Rattle.sd_base.specs.Numbers.{number_of}
+use Rattle.wrappers.specs.Serving.{IsRead}
+use Rattle.wrappers.specs.declared.call_out.Saying.TheVariants.{Out}
 use Rattle.share_table.specs.Locks.{holder_of}
-use Rattle.wrappers.specs.declared.call_out.CallOut.TheVariants.{Fail, Blocked}
-use Rattle.wrappers.specs.Served.{Served, gives, bad, full, done, does, fails, points, grants}
+use Rattle.wrappers.specs.declared.call_out.CallOut.TheVariants.{Fail, Blocked, Reply, Said}
+use Rattle.wrappers.specs.Served.{Served, gives, replies, bad, full, done, does, says, fails, points, grants}
 use Rattle.wrappers.specs.Replies.{not_taken, not_let_go}
 use Rattle.wrappers.specs.Rows as row
 use Rattle.wrappers.proofs.Rules.{few, ruled}
@@ -230,3 +234,52 @@ timer_row owner i d due handler a near share h is =
     few (update.Timer i due handler a) (is_below 256 i) (row.has_timer_left h owner i)
     ∙ ap (λ m. cond (not (is_below 256 i)) bad (cond (not (row.has_timer_left h owner i)) full (does (update.Timer i m handler a)))) is
     ∙ ap (λ b. cond (not b) bad (cond (not (row.has_timer_left h owner i)) full (does (update.Timer i (clock_of h + nat_abs d) handler a)))) (sym (and_true (is_below 256 i) (row.is_distance d) near))
+
+-- ports of an owner, by their numbers
+
+numbered : (port : ℤ) → is_below 65536 port ≡ true → number_of 65536 port ≡ Some (nat_abs port)
+numbered (pos n) below = ap (λ b. cond b (Some n) None) below
+numbered (negsuc n) below = cc
+
+pub held_number : (share : ℕ) (h : History) (owner : ℕ) (port : ℤ) → IsLawful share h → holds_port h owner port ≡ true → number_of 65536 port ≡ row.port_of h owner port
+held_number share h owner port lawful held =
+    numbered port (held_port share h owner port lawful held) ∙ sym (ap (λ b. cond b (Some (nat_abs port)) None) held)
+
+closed_by : (held : Bool) (p : ℤ) (s t : Served) → None ≡ cond held (Some (nat_abs p)) None → cond (not held) s t ≡ s
+closed_by true p s t is = cc
+closed_by false p s t is = refl
+
+open_by : (held : Bool) (p : ℤ) (n : ℕ) (s : Served) (t : ℕ → Served) → Some n ≡ cond held (Some (nat_abs p)) None → cond (not held) s (t (nat_abs p)) ≡ t n
+open_by true p n s t is =
+    let same : nat_abs p ≡ n = cc in
+    ap t same
+open_by false p n s t is = cc
+
+pub reads_nothing : (h : History) (devices : Scripted) (owner : ℕ) (p : ℤ) → None ≡ row.port_of h owner p → IsRead (row.port_in h devices owner p) (Fail fail.Port)
+reads_nothing h devices owner p is =
+    subst (λ s. IsRead s (Fail fail.Port)) (sym (closed_by (holds_port h owner p) p (fails fail.Port) (replies (oldest_or_zero (answers_of devices (nat_abs p)))) is))
+    (record { answer = refl; quiet = refl })
+
+pub reads_oldest : (h : History) (devices : Scripted) (owner : ℕ) (p : ℤ) (n : ℕ) (v : ℤ) → Some n ≡ row.port_of h owner p → v ≡ oldest_or_zero (answers_of devices n) →
+    IsRead (row.port_in h devices owner p) (Reply v)
+reads_oldest h devices owner p n v is value =
+    subst (λ s. IsRead s (Reply v)) (sym (open_by (holds_port h owner p) p n (fails fail.Port) (λ m. replies (oldest_or_zero (answers_of devices m))) is))
+    (record { answer = ap (λ z. Reply z) value; quiet = refl })
+
+pub writes_nothing : (h : History) (owner : ℕ) (p v : ℤ) → None ≡ row.port_of h owner p → IsRead (row.port_out h owner p v) (Fail fail.Port)
+writes_nothing h owner p v is =
+    subst (λ s. IsRead s (Fail fail.Port)) (sym (closed_by (holds_port h owner p) p (fails fail.Port) (says (Out (nat_abs p) v)) is)) (record { answer = refl; quiet = refl })
+
+pub writes_out : (h : History) (owner : ℕ) (p v : ℤ) (n : ℕ) → Some n ≡ row.port_of h owner p → IsRead (row.port_out h owner p v) (Said (Out n v))
+writes_out h owner p v n is =
+    subst (λ s. IsRead s (Said (Out n v))) (sym (open_by (holds_port h owner p) p n (fails fail.Port) (λ m. says (Out m v)) is)) (record { answer = refl; quiet = refl })
+
+-- the value of a parameter
+
+pub gets_nothing : (h : History) (k : ℤ) → is_below 256 k ≡ false → IsRead (row.get_param h k) (Reply (negsuc 21))
+gets_nothing h k out =
+    subst (λ b. IsRead (cond (not b) bad (replies (row.first_or_zero (values_of h k)))) (Reply (negsuc 21))) (sym out) (record { answer = refl; quiet = refl })
+
+pub gets_value : (h : History) (k v : ℤ) → is_below 256 k ≡ true → v ≡ row.first_or_zero (values_of h k) → IsRead (row.get_param h k) (Reply v)
+gets_value h k v below value =
+    subst (λ b. IsRead (cond (not b) bad (replies (row.first_or_zero (values_of h k)))) (Reply v)) (sym below) (record { answer = ap (λ z. Reply z) value; quiet = refl })

@@ -1,10 +1,14 @@
 -- A text is told byte by byte, and what is told goes with what was read.
-use Rattle.std.proofs.Common.{◌≡◌, ℕ, zero, suc, ◌+◌, ◌-◌, ◌<◌, ◌≤◌, Bool, true, false, cond, eqb, ltb, List, [], ◌∷◌, ◌++◌, length, take, set, replicate, Option, Some, None, refl, ap, sym, ◌∙◌, subst, arith, length-append, append_assoc}
+use Rattle.std.proofs.Common.{◌≡◌, ℕ, zero, suc, ◌+◌, ◌-◌, ◌<◌, ◌≤◌, Bool, true, false, cond, eqb, ltb, leb, List, [], ◌∷◌, ◌++◌, length, take, set, replicate, Option, Some, None, refl, ap, sym, ◌∙◌, subst, arith, length-append, length-take-le, append_assoc}
 use Rattle.std.proofs.lemmas.List.{take-append-le}
 use Rattle.std.specs.Option.{option_map}
 use Rattle.std.proofs.lemmas.Bool.Decides.{nat_tests}
 use Rattle.sd_base.specs.Padded.{padded}
 use Rattle.wrappers.specs.declared.call_out.TextBytes.{TextBytes}
+use Rattle.wrappers.specs.declared.call_out.CallOut.TheVariants.{Said, Wild}
+use Rattle.wrappers.specs.declared.call_out.Saying.TheVariants.{Text}
+use Rattle.wrappers.specs.Rows.{says_text}
+use Rattle.wrappers.specs.Serving.{IsRead}
 use Rattle.byte_memory.specs.Tested.{Memory, is_inside}
 use Rattle.wrappers.specs.Text.{told, text_from, behind, byte_at}
 
@@ -130,3 +134,42 @@ going_past memory from i at now g past =
     let left : 33 - i ≡ 0 = omega arith in
     no_more g.front now g.shown
     ∙ sym (ap (option_map told) (g.rest ∙ ap (λ n. option_map (λ more. g.front ++ more) (text_from memory n at)) left ∙ ap (option_map (λ more. g.front ++ more)) (read_none memory at)))
+
+-- One byte more, as the code puts it.
+
+shorter : (front : List ℕ) → length (take 32 front) < 32 → length front < 32
+shorter front short =
+    elim (leb 32 (length front)) as (λ b. leb 32 (length front) ≡ b → length front < 32) [
+      | true ↦ λ is. (let enough : 32 ≤ length front = grind (arith, nat_tests) in absurd (omega (arith, short, length-take-le 32 front enough)))
+      | false ↦ λ is. grind (arith, nat_tests)
+    ] refl
+
+longer : (front : List ℕ) → 32 ≤ length (take 32 front) → 32 ≤ length front
+longer front long =
+    elim (leb 32 (length front)) as (λ b. leb 32 (length front) ≡ b → 32 ≤ length front) [
+      | true ↦ λ is. grind (arith, nat_tests)
+      | false ↦ λ is. (let few : length front ≤ 32 = grind (arith, nat_tests) in omega (arith, long, ap length (take_all 32 front few)))
+    ] refl
+
+pub put_next : (now : TextBytes) (front : List ℕ) (byte : ℕ) → now ≡ told front → now.len < 32 →
+    ◌≡◌ {A = TextBytes} (record { bytes = set now.bytes now.len byte; len = now.len + 1; more = now.more }) (told (front ++ byte ∷ []))
+put_next now front byte is small =
+    let short : length front < 32 = shorter front (subst (λ (t : TextBytes). t.len < 32) is small) in
+    ap (λ (t : TextBytes). record { bytes = set t.bytes t.len byte; len = t.len + 1; more = t.more }) is ∙ sym (told-put front byte short)
+
+pub put_past : (now : TextBytes) (front : List ℕ) (byte : ℕ) → now ≡ told front → length front < 33 → 32 ≤ now.len →
+    ◌≡◌ {A = TextBytes} (record { bytes = now.bytes; len = now.len; more = true }) (told (front ++ byte ∷ []))
+put_past now front byte is short large =
+    let long : 32 ≤ length front = longer front (subst (λ (t : TextBytes). 32 ≤ t.len) is large) in
+    ap (λ (t : TextBytes). record { bytes = t.bytes; len = t.len; more = true }) is ∙ sym (told-past front byte (omega arith))
+
+-- what is told of a text that was read, as a call that prints it
+pub prints_none : (o : Option (List ℕ)) → None ≡ option_map told o → IsRead (says_text o) Wild
+prints_none None is = record { answer = refl; quiet = refl }
+prints_none (Some text) is = cc
+
+pub prints_some : (o : Option (List ℕ)) (t : TextBytes) → Some t ≡ option_map told o → IsRead (says_text o) (Said (Text t))
+prints_some None t is = cc
+prints_some (Some text) t is =
+    let same : t ≡ told text = cc in
+    record { answer = ap (λ x. Said (Text x)) same; quiet = refl }

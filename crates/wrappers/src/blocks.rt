@@ -1,5 +1,6 @@
 //! Calls that allocate blocks and give them back.
 ghost use Rattle.std.specs.Prelude.{◌≡◌, ℕ, ◌<◌, ◌≤◌, ◌+◌, ◌*◌, ◌^◌, pos};
+ghost use Rattle.sd_base.specs.Numbers.{number_of};
 ghost use Rattle.update_tracker.specs.declared.undo.Reply.TheVariants.{Base};
 ghost use Rattle.wrappers.specs.Rows as row;
 ghost use Rattle.wrappers.specs.Serving.{ServesRow, IsStop};
@@ -15,12 +16,23 @@ const NULL: Fat = Fat {
     hi: 0,
 };
 
+/// A number of elements, where 32 bits hold it.
+fn element_count(n: i64) -> Option<u32>
+    ensures { result ≡ number_of 4294967296 n }
+{
+    if n < 0 || n > 4_294_967_295 {
+        return None;
+    }
+    Some(n as u32)
+}
+
 /// A pointer to the first of `n` elements of this size from `base` on, bounded by them. A block that was granted ends within the arena, so
 /// nothing saturates.
 fn block(base: u32, size: u32, n: i64) -> Fat
-    ensures { (count : ℕ) → n ≡ pos count → count < 2 ^ 32 → base + size * count < 2 ^ 32 → result ≡ row.block base size count }
+    ensures { (count : ℕ) → n ≡ pos count → count < 2 ^ 32 → base + size * count < 2 ^ 32 →
+        result ≡ row.block base size count }
 {
-    let count = u32::try_from(n).unwrap_or(0);
+    let count = element_count(n).unwrap_or(0);
     Fat {
         value: base,
         lo: base,
@@ -30,7 +42,8 @@ fn block(base: u32, size: u32, n: i64) -> Fat
 
 /// The pointer that a grant of `n` elements of this size is answered with.
 fn pointer(reply: Reply, size: u32, n: i64) -> Fat
-    ensures { (base count : ℕ) → reply ≡ Base base → n ≡ pos count → count < 2 ^ 32 → base + size * count < 2 ^ 32 → result ≡ row.block base size count }
+    ensures { (base count : ℕ) → reply ≡ Base base → n ≡ pos count → count < 2 ^ 32 → base + size * count < 2 ^ 32 →
+        result ≡ row.block base size count }
 {
     match reply {
         Reply::Base(base) => block(base, size, n),

@@ -1,5 +1,6 @@
 //! Calls that read and write ports.
 ghost use Rattle.std.specs.Prelude.{◌≡◌};
+ghost use Rattle.sd_base.specs.Numbers.{number_of};
 ghost use Rattle.wrappers.specs.Rows as row;
 ghost use Rattle.wrappers.specs.Serving.{ReadsRow, ReadsPort, TakesAnswer, IsStop};
 
@@ -8,6 +9,16 @@ use device_model::Devices;
 use sd_base::FailKind;
 use update_tracker::Tracked;
 
+/// The number of a port, from 0 to 65,535.
+fn port_number(port: i32) -> Option<u16>
+    ensures { result ≡ number_of 65536 port }
+{
+    if port < 0 || port > 65_535 {
+        return None;
+    }
+    Some(port as u16)
+}
+
 /// The number of a port, where the owner holds it.
 fn held_port(kernel: &Tracked, owner: u8, port: i32) -> Option<u16>
     ensures { ReadsPort kernel.now owner port result }
@@ -15,7 +26,7 @@ fn held_port(kernel: &Tracked, owner: u8, port: i32) -> Option<u16>
     if !kernel.kernel().claims.has_port(owner, port) {
         return None;
     }
-    u16::try_from(port).ok()
+    port_number(port)
 }
 
 /// `port_in(p)`: the oldest answer of the caller's port, which is taken, or 0.

@@ -1,5 +1,6 @@
 //! Calls that read and write ports.
 ghost use Rattle.std.specs.Prelude.{◌≡◌};
+ghost use Rattle.device_model.specs.Scripted.{answers_of, oldest_or_zero, without_oldest};
 ghost use Rattle.sd_base.specs.Numbers.{number_of};
 ghost use Rattle.wrappers.specs.Rows as row;
 ghost use Rattle.wrappers.specs.Serving.{ReadsRow, ReadsPort, TakesAnswer, IsStop};
@@ -29,6 +30,14 @@ fn held_port(kernel: &Tracked, owner: u8, port: i32) -> Option<u16>
     port_number(port)
 }
 
+/// The oldest answer of a port, which is taken, or 0 where it has none.
+fn oldest(devices: &mut Devices, port: u16) -> i32
+    ensures value { result ≡ oldest_or_zero (answers_of devices.old port) }
+    ensures taken { devices.new ≡ without_oldest port devices.old }
+{
+    devices.port_in(port)
+}
+
 /// `port_in(p)`: the oldest answer of the caller's port, which is taken, or 0.
 pub fn port_in(kernel: &Tracked, devices: &mut Devices, owner: u8, port: i32) -> CallOut
     ensures reads { ReadsRow kernel.now (λ h. row.port_in h devices.old owner port) result }
@@ -37,7 +46,7 @@ pub fn port_in(kernel: &Tracked, devices: &mut Devices, owner: u8, port: i32) ->
 {
     match held_port(kernel, owner, port) {
         None => CallOut::Fail(FailKind::Port),
-        Some(number) => CallOut::Reply(devices.port_in(number)),
+        Some(number) => CallOut::Reply(oldest(devices, number)),
     }
 }
 

@@ -52,7 +52,7 @@ fn text_at(memory: &Tested, from: u32) -> Option<TextBytes>
 {
     let mut told = NO_TEXT;
     let mut at = from;
-    for _i in 0..33 {
+    for _i in 0..33usize {
         if !memory.inside(at, 1) {
             return None;
         }

@@ -25,12 +25,12 @@ pub returns-in-Some-clause-reads : goal.returns-in-Some-clause-reads
 returns-in-Some-clause-reads c =
     let fits-port : SFits w32 c.args.port = c.ranges.port in
     let port : ReadsPort c.args.kernel.now c.args.owner c.args.port (Some c.in-Some.number) = simp to_z-of_z at c.in-Some.ensures in
-    let fits-answer : SFits w32 c.port_in.result = record { sfits = c.port_in.type_inv } in
-    let value : to_z w32 (of_z w32 c.port_in.result) ≡ oldest_or_zero (answers_of c.args.devices.now c.in-Some.number) = to_z-of_z w32 c.port_in.result fits-answer ∙ c.port_in.ensures.value in
+    let fits-answer : SFits w32 c.oldest.result = record { sfits = c.oldest.type_inv } in
+    let value : to_z w32 (of_z w32 c.oldest.result) ≡ oldest_or_zero (answers_of c.args.devices.now c.in-Some.number) = to_z-of_z w32 c.oldest.result fits-answer ∙ c.oldest.ensures.value in
     λ h lawful proper stands. reads_oldest h c.args.devices.now c.args.owner c.args.port c.in-Some.number _ (port h lawful proper stands) value
 
 pub returns-in-Some-clause-devices : goal.returns-in-Some-clause-devices
 returns-in-Some-clause-devices c =
     let fits-port : SFits w32 c.args.port = c.ranges.port in
     let port : ReadsPort c.args.kernel.now c.args.owner c.args.port (Some c.in-Some.number) = simp to_z-of_z at c.in-Some.ensures in
-    λ h lawful proper stands. c.port_in.ensures.taken ∙ ap (λ o. without_answer o c.args.devices.now) (port h lawful proper stands)
+    λ h lawful proper stands. c.oldest.ensures.taken ∙ ap (λ o. without_answer o c.args.devices.now) (port h lawful proper stands)

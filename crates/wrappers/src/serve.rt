@@ -3,7 +3,7 @@ ghost use Rattle.std.specs.Prelude.{◌≡◌, ◌<◌, ◌≤◌, ◌^◌, leng
 ghost use Rattle.wrappers.specs.Rows as row;
 ghost use Rattle.wrappers.specs.Serving.{ServesCall, ServesRow, TakesAnswer, IsStop};
 
-use crate::arguments::int_of;
+use crate::arguments::{int_at, number_at};
 use crate::blocks::{kalloc, kfree};
 use crate::claims::{
     add_device, clear_param, del_device, free_line, get_param, release_ports, request_line,
@@ -48,7 +48,7 @@ fn by_row(
     match call.name {
         KernelName::Printd => CallOut::Said(Saying::Print(first)),
         KernelName::Prints => prints(memory, call.pointer.value),
-        KernelName::Kalloc => kalloc(kernel, who.owner, call.elem, call.size, call.args[0]),
+        KernelName::Kalloc => kalloc(kernel, who.owner, call.elem, call.size, number_at(call, 0)),
         KernelName::Kfree => kfree(kernel, who.owner, call.pointer.value),
         KernelName::RequestLine => request_line(kernel, who.owner, first, call.function),
         KernelName::FreeLine => free_line(kernel, who.owner, first),
@@ -100,8 +100,8 @@ pub fn serve_call(
     if !may_call(call.name, who.task) {
         return CallOut::Fail(FailKind::Context);
     }
-    let first = int_of(call.args[0]);
-    let second = int_of(call.args[1]);
-    let third = int_of(call.args[2]);
+    let first = int_at(call, 0);
+    let second = int_at(call, 1);
+    let third = int_at(call, 2);
     by_row(kernel, memory, devices, who, call, first, second, third)
 }

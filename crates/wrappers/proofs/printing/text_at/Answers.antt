@@ -10,8 +10,8 @@ loop-i-init c = going_first c.args.memory.now c.args.from
 pub loop-i-preserved : goal.loop-i-preserved
 loop-i-preserved c =
     let inside : is_inside c.args.memory.now c.loop-i.at 1 ≡ true = sym c.inside.ensures.test ∙ c.if-not-inside.false in
-    going_next c.args.memory.now c.args.from c.loop-i._i c.loop-i.at c.byte_at-byte.result c.loop-i.told c.with_byte.result c.loop-i.invariant c.loop-i-test.true inside c.byte_at-byte.ensures
-    (grind (arith, nat_tests, c.if-byte-eq0.false)) c.with_byte.ensures
+    going_next c.args.memory.now c.args.from c.loop-i._i c.loop-i.at c.byte_at-byte.result c.loop-i.told c.with_byte-told.result c.loop-i.invariant c.loop-i-test.true inside c.byte_at-byte.ensures
+    (grind (arith, nat_tests, c.if-byte-eq0.false)) c.with_byte-told.ensures
 
 pub returns-then-not-inside : goal.returns-then-not-inside
 returns-then-not-inside c =

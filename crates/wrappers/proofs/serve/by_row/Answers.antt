@@ -1,5 +1,5 @@
 -- Each call is served by the function of its row, whose clause is that row's.
-use Rattle.std.proofs.Common.{◌≡◌, ℕ, ℤ, None, refl, sym, ap, subst}
+use Rattle.std.proofs.Common.{◌≡◌, ℕ, ℤ, None, refl, sym, ap, ◌∙◌, subst}
 use Rattle.std.proofs.lemmas.Int.{to_z-of_z}
 use mir.Syntax.{w32, w64}
 use mir.Val.{SFits}
@@ -32,11 +32,9 @@ Takes t who first old new name = TakesAnswer t (λ h. port_by name h who first) 
 
 pub returns-in-Kalloc-clause-serves : goal.returns-in-Kalloc-clause-serves
 returns-in-Kalloc-clause-serves c =
-    let here = c.type_inv.call in
-    let fits-count : SFits w64 (count_at c.args.call.now) = ? in
     let served : ServesRow c.args.kernel.now c.args.who.owner (λ share h. row.kalloc h c.args.who.owner c.args.call.now.elem c.args.call.now.size (count_at c.args.call.now)) c.kalloc.result c.kalloc.new.kernel =
       subst (λ n. ServesRow c.args.kernel.now c.args.who.owner (λ share h. row.kalloc h c.args.who.owner c.args.call.now.elem c.args.call.now.size n) c.kalloc.result c.kalloc.new.kernel)
-      (to_z-of_z w64 (count_at c.args.call.now) fits-count) c.kalloc.ensures.serves in
+      (to_z-of_z w64 c.number_at.result (record { sfits = c.number_at.type_inv }) ∙ c.number_at.ensures) c.kalloc.ensures.serves in
     subst (Serves c.args.kernel.now c.args.memory.now c.args.devices.now c.args.who c.args.call.now c.args.first c.args.second c.args.third c.kalloc.result c.kalloc.new.kernel) (sym c.in-Kalloc.is) served
 
 pub returns-in-Kalloc-clause-takes : goal.returns-in-Kalloc-clause-takes

@@ -1,12 +1,9 @@
 -- A call from a context that its row leaves out changes nothing; any other is served by its row.
 use Rattle.std.proofs.Common.{◌≡◌, ℤ, true, false, refl, sym, ap, ◌∙◌, subst, rules}
 use Rattle.std.proofs.lemmas.Int.{to_z-of_z}
-use mir.Syntax.{w32, w64}
+use mir.Syntax.{w32}
 use mir.Val.{SFits, to_z, of_z}
 use Rattle.wrappers.specs.Rows.{served, int_at, without_answer}
-use Rattle.std.specs.Prelude.{pos, slice_index_or}
-use Rattle.checked_tree.specs.declared.shapes.Scalar.TheVariants.{I32}
-use Rattle.checked_tree.specs.Numbers.{converted}
 use Rattle.wrappers.specs.Contexts.{may_call}
 use Rattle.wrappers.proofs.Called.{refused_call, port_refused, served_by_row, takes_by_row}
 use Rattle.wrappers.proofs.Tracking.{serves_nothing}
@@ -25,16 +22,14 @@ returns-then-not-may_call-clause-takes c =
 
 pub returns-clause-serves : goal.returns-clause-serves
 returns-clause-serves c =
-    let here = c.type_inv.call in
     let may : may_call c.args.call.now.name c.args.who.task ≡ true = sym c.may_call.ensures ∙ c.if-not-may_call.false in
     served_by_row c.args.kernel.now c.by_row.new.kernel c.args.memory.now c.args.devices.now c.args.who c.args.call.now c.by_row.result _ _ _
-    (to_z-of_z w32 c.int_of-first.result (record { sfits = c.int_of-first.type_inv }) ∙ c.int_of-first.ensures ∙ ap (λ z. converted I32 z) (to_z-of_z w64 (slice_index_or c.args.call.now.args 0 (pos 0)) ?))
-    (to_z-of_z w32 c.int_of-second.result (record { sfits = c.int_of-second.type_inv }) ∙ c.int_of-second.ensures ∙ ap (λ z. converted I32 z) (to_z-of_z w64 (slice_index_or c.args.call.now.args 1 (pos 0)) ?))
-    (to_z-of_z w32 c.int_of-third.result (record { sfits = c.int_of-third.type_inv }) ∙ c.int_of-third.ensures ∙ ap (λ z. converted I32 z) (to_z-of_z w64 (slice_index_or c.args.call.now.args 2 (pos 0)) ?))
+    (to_z-of_z w32 c.int_at-first.result (record { sfits = c.int_at-first.type_inv }) ∙ c.int_at-first.ensures)
+    (to_z-of_z w32 c.int_at-second.result (record { sfits = c.int_at-second.type_inv }) ∙ c.int_at-second.ensures)
+    (to_z-of_z w32 c.int_at-third.result (record { sfits = c.int_at-third.type_inv }) ∙ c.int_at-third.ensures)
     may c.by_row.ensures.serves
 
 pub returns-clause-takes : goal.returns-clause-takes
 returns-clause-takes c =
     takes_by_row c.args.kernel.now c.args.devices.now c.by_row.new.devices c.args.who c.args.call.now _
-    (to_z-of_z w32 c.int_of-first.result (record { sfits = c.int_of-first.type_inv }) ∙ c.int_of-first.ensures ∙ ap (λ z. converted I32 z) (to_z-of_z w64 (slice_index_or c.args.call.now.args 0 (pos 0)) ?))
-    c.by_row.ensures.takes
+    (to_z-of_z w32 c.int_at-first.result (record { sfits = c.int_at-first.type_inv }) ∙ c.int_at-first.ensures) c.by_row.ensures.takes

@@ -7,8 +7,6 @@
 #[cfg(test)]
 mod answers;
 #[cfg(test)]
-mod calls;
-#[cfg(test)]
 mod caps;
 #[cfg(test)]
 mod devices;

@@ -37,7 +37,10 @@ fn int_of(z: i64) -> i32
 pub fn number_at(call: &KernelCall, place: usize) -> i64
     ensures { result ≡ slice_index_or call.now.args place (pos 0) }
 {
-    call.args.get(place).copied().unwrap_or(0)
+    match call.args.get(place) {
+        Some(number) => *number,
+        None => 0,
+    }
 }
 
 /// The same as an `int`.

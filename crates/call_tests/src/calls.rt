@@ -4,10 +4,10 @@
 //! its elements or its pointer; numbers at the end that are 0 are left out. Behind it stands what it comes to. A row `clock N` sets the clock.
 ghost use Rattle.std.specs.Prelude.{◌≡◌, ◌<◌, ◌^◌, length};
 
-use crate::tracking::new_tracked;
 use byte_memory::Tested;
 use checked_tree::{KERNEL_CALLS, KernelCall, KernelName, kernel_row};
 use device_model::Devices;
+use kernel_tables::Kernel;
 use sd_base::{Fat, Update, Who};
 use std::alloc::{AllocError, Global};
 use std::process::Abort;
@@ -351,6 +351,12 @@ const ANSWERS_OF_HISTORY: [(u16, i32); 6] = [
     (65_535, i32::MIN),
 ];
 
+/// New tables, tracked, of whose lines each may have one holder.
+fn new_tracked(alloc: Global) -> Result<Tracked, AllocError> {
+    let kernel = Kernel::new(alloc)?;
+    Tracked::new(alloc, kernel)
+}
+
 /// The call of this spelling.
 fn call_named(word: &str) -> Option<KernelName> {
     for place in 0..KERNEL_CALLS.len() {
@@ -549,7 +555,7 @@ fn fill(rt: &impl Abort, memory: &mut Tested, from: u32, end: u32)
 
 #[test]
 fn each_call_has_each_of_its_answers(rt: HostRuntime) -> Result<(), Fail> {
-    let mut kernel = new_tracked(rt.alloc(), 1)?;
+    let mut kernel = new_tracked(rt.alloc())?;
     let memory = Tested::new(rt.alloc(), 16)?;
     let mut devices = Devices::new(rt.alloc(), 3)?;
     for (port, v) in ANSWERS {
@@ -569,7 +575,7 @@ fn each_call_has_each_of_its_answers(rt: HostRuntime) -> Result<(), Fail> {
 
 #[test]
 fn a_history_of_200_calls(rt: HostRuntime) -> Result<(), Fail> {
-    let mut kernel = new_tracked(rt.alloc(), 1)?;
+    let mut kernel = new_tracked(rt.alloc())?;
     let memory = Tested::new(rt.alloc(), 16)?;
     let mut devices = Devices::new(rt.alloc(), 6)?;
     for (port, v) in ANSWERS_OF_HISTORY {
@@ -589,7 +595,7 @@ fn a_history_of_200_calls(rt: HostRuntime) -> Result<(), Fail> {
 
 #[test]
 fn an_owner_has_as_many_as_it_may_have(rt: HostRuntime) -> Result<(), Fail> {
-    let mut kernel = new_tracked(rt.alloc(), 1)?;
+    let mut kernel = new_tracked(rt.alloc())?;
     let memory = Tested::new(rt.alloc(), 16)?;
     let mut devices = Devices::new(rt.alloc(), 0)?;
     for (name, step, cap) in CAPS {
@@ -601,7 +607,7 @@ fn an_owner_has_as_many_as_it_may_have(rt: HostRuntime) -> Result<(), Fail> {
 
 #[test]
 fn texts_of_each_length(rt: HostRuntime) -> Result<(), Fail> {
-    let mut kernel = new_tracked(rt.alloc(), 1)?;
+    let mut kernel = new_tracked(rt.alloc())?;
     let mut memory = Tested::new(rt.alloc(), 2_048)?;
     let mut devices = Devices::new(rt.alloc(), 0)?;
     memory.grant(16, 1_100);

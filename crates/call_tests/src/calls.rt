@@ -268,7 +268,7 @@ lock 2 2 => Fail(Masked)
 hold 2 2 -2147483648 => Reply(-22)
 lock 1 1 1 => Fail(Masked)
 kfree 1 1 0 0 0 64 => Fail(Free)
-unmask 3 3 => Reply(0)
+unmask 3 3 => Fail(Unheld)
 set_timer 1 5 0 5 2147483647 2 => Reply(0)
 free_line 4 4 => Reply(-22)
 del_timer 2 0 2 => Reply(-22)
@@ -291,7 +291,6 @@ request_ports 1 1 100 4 => Reply(-16)
 lock 3 3 1 => Blocked(1)
 queue_work 1 1 -1 => Reply(0)
 printd 1 1 -1 => Said(Print(-1))
-mask 1 1 => Fail(Relock)
 lock 1 0 1 => Fail(Context)
 set_timer 3 3 0 -1 63 2 => Reply(-22)
 kfree 3 3 => Reply(0)
@@ -300,32 +299,27 @@ queue_work 3 3 1023 0 0 2 => Reply(0)
 clock 1
 queue_work 3 3 255 => Reply(0)
 port_in 4 4 17 => Reply(-1)
-drop_hold 1 1 => Reply(0)
+drop_hold 1 1 => Reply(-22)
 unmask 1 0 => Fail(Context)
 lock 2 2 1 => Fail(Masked)
-drop_hold 2 2 => Reply(-22)
 queue_work 2 2 1023 => Reply(0)
 del_timer 2 0 1 => Reply(0)
 del_timer 1 1 2 => Reply(-22)
 unlock 4 0 1 => Fail(Context)
-unmask 1 1 => Reply(0)
-drop_hold 1 5 => Reply(0)
 clear_param 2 2 => Reply(0)
 unmask 2 2 => Reply(0)
 lock 2 2 => Blocked(0)
 add_device 3 3 3 => Reply(0)
-unmask 2 2 => Fail(Unheld)
 set_param 2 2 -2147483648 65536 => Reply(-22)
 add_device 4 4 3 => Reply(-16)
-get_param 3 3 => Reply(63)
 lock 1 1 => Blocked(0)
 unlock 4 0 1 => Fail(Context)
-get_param 2 2 2 => Reply(1023)
+get_param 2 2 2 => Reply(65535)
 request_ports 4 4 20 8 => Reply(0)
 lock 1 1 1 => Fail(Relock)
 printd 2 2 1024 => Said(Print(1024))
 del_timer 1 1 => Reply(0)
-get_param 1 1 1 => Reply(-1)
+get_param 1 1 1 => Reply(1023)
 lock 1 1 => Blocked(0)
 mask 4 4 => Fail(Relock)
 lock 3 3 1 => Blocked(1)
@@ -333,12 +327,18 @@ now 3 3 => Reply(1)
 clear_param 1 0 1 => Reply(0)
 lock 1 1 1 => Fail(Relock)
 printd 2 2 1 => Said(Print(1))
-unmask 2 2 => Reply(0)
 unlock 4 0 => Fail(Context)
-clear_param 2 0 2 => Reply(0)
+clear_param 2 0 2 => Reply(-22)
 lock 2 2 2147483647 => Fail(Lock)
+unmask 4 8 => Reply(0)
 request_ports 3 3 16 4 => Reply(-16)
-get_param 3 3 1 => Reply(-1)
+kfree 1 0 => Reply(0)
+unlock 4 4 1024 => Fail(Lock)
+set_timer 2 6 2 -1 63 => Reply(-22)
+clear_param 3 3 1 => Reply(-22)
+kalloc 3 3 0 0 0 12 => Pointer(Fat { value: 0, lo: 0, hi: 0 })
+clear_param 1 1 2 => Reply(0)
+lock 2 2 65535 => Fail(Lock)
 ";
 
 /// The answers that are laid down before the history.
@@ -561,14 +561,7 @@ fn each_call_has_each_of_its_answers(rt: HostRuntime) -> Result<(), Fail> {
     for (port, v) in ANSWERS {
         assert_eq!(rt; devices.answer(port, v), Ok(()));
     }
-    let wrong = wrong_rows(
-        &rt,
-        rt.alloc(),
-        &mut kernel,
-        &memory,
-        &mut devices,
-        TABLE,
-    )?;
+    let wrong = wrong_rows(&rt, rt.alloc(), &mut kernel, &memory, &mut devices, TABLE)?;
     assert_eq!(rt; wrong.as_str(), "");
     Ok(())
 }
@@ -581,14 +574,7 @@ fn a_history_of_200_calls(rt: HostRuntime) -> Result<(), Fail> {
     for (port, v) in ANSWERS_OF_HISTORY {
         assert_eq!(rt; devices.answer(port, v), Ok(()));
     }
-    let wrong = wrong_rows(
-        &rt,
-        rt.alloc(),
-        &mut kernel,
-        &memory,
-        &mut devices,
-        HISTORY,
-    )?;
+    let wrong = wrong_rows(&rt, rt.alloc(), &mut kernel, &memory, &mut devices, HISTORY)?;
     assert_eq!(rt; wrong.as_str(), "");
     Ok(())
 }
@@ -599,9 +585,16 @@ fn an_owner_has_as_many_as_it_may_have(rt: HostRuntime) -> Result<(), Fail> {
     let memory = Tested::new(rt.alloc(), 16)?;
     let mut devices = Devices::new(rt.alloc(), 0)?;
     for (name, step, cap) in CAPS {
-        assert_eq!(rt; first_full(&rt, &mut kernel, &memory, &mut devices, name, step), cap, "{name:?}");
+        assert_eq!(rt;
+            first_full(&rt, &mut kernel, &memory, &mut devices, name, step),
+            cap,
+            "{name:?}"
+        );
     }
-    assert_eq!(rt; blocks_of_one(&rt, &mut kernel, &memory, &mut devices), 4_096);
+    assert_eq!(rt;
+        blocks_of_one(&rt, &mut kernel, &memory, &mut devices),
+        4_096
+    );
     Ok(())
 }
 
@@ -616,7 +609,11 @@ fn texts_of_each_length(rt: HostRuntime) -> Result<(), Fail> {
     let who = Who { owner: 1, task: 1 };
     for (at, wanted) in TEXTS {
         let call = call_of(KernelName::Prints, &[1, 1, 0, 0, 0, i64::from(at)]);
-        assert_eq!(rt; told(served(&rt, &mut kernel, &memory, &mut devices, who, &call)), wanted, "at {at}");
+        assert_eq!(rt;
+            told(served(&rt, &mut kernel, &memory, &mut devices, who, &call)),
+            wanted,
+            "at {at}"
+        );
     }
     Ok(())
 }

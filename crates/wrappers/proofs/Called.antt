@@ -54,10 +54,10 @@ pub served_by_row : (old new : TrackedRows) (memory : Memory) (devices : Scripte
 served_by_row old new memory devices who call out a b d p q r made serves =
     serves_as old new who.owner (λ share h. row_of call.name share h memory devices who call a b d) (λ share h. served share h memory devices who call) out
     (λ h stands.
-        ap (λ z. row_of call.name old.kernel.claims.share h memory devices who call z b d) p
-        ∙ ap (λ z. row_of call.name old.kernel.claims.share h memory devices who call (int_at call 0) z d) q
-        ∙ ap (λ z. row_of call.name old.kernel.claims.share h memory devices who call (int_at call 0) (int_at call 1) z) r
-        ∙ made_call old.kernel.claims.share h memory devices who call made) serves
+    ap (λ z. row_of call.name old.kernel.claims.share h memory devices who call z b d) p
+    ∙ ap (λ z. row_of call.name old.kernel.claims.share h memory devices who call (int_at call 0) z d) q
+    ∙ ap (λ z. row_of call.name old.kernel.claims.share h memory devices who call (int_at call 0) (int_at call 1) z) r
+    ∙ made_call old.kernel.claims.share h memory devices who call made) serves
 
 pub takes_by_row : (t : TrackedRows) (old new : Scripted) (who : Who) (call : KernelCall) (a : ℤ) → a ≡ int_at call 0 →
     TakesAnswer t (λ h. port_by call.name h who a) old new → TakesAnswer t (λ h. port_taken h who call) old new

@@ -156,7 +156,7 @@ pub grant_refused : (h : History) (owner elem size : ℕ) (n : ℤ) (share : ℕ
     row.kalloc h owner elem size n ≡ points null
 grant_refused h owner elem size n share r some refused =
     let full : has_room (granted h owner) (row.elements elem size) n ≡ false =
-      ap (λ bs. has_room bs (row.elements elem size) n) (sym (granted-live_of h owner)) ∙ no_room_by (has_room (granted (live_of h) owner) (row.elements elem size) n) r refused in
+    ap (λ bs. has_room bs (row.elements elem size) n) (sym (granted-live_of h owner)) ∙ no_room_by (has_room (granted (live_of h) owner) (row.elements elem size) n) r refused in
     ap (λ b. cond b (points null) (cond (not (has_room (granted h owner) (row.elements elem size) n)) (points null) (row.allocates h owner elem size n))) some
     ∙ ap (λ b. cond (not b) (points null) (row.allocates h owner elem size n)) full
 
@@ -184,7 +184,7 @@ pub grant_made : (h : History) (owner elem size : ℕ) (n : ℤ) (share : ℕ) �
     (row.kalloc h owner elem size n ≡ row.allocates h owner elem size n) × Fits (granted h owner) size n
 grant_made h owner elem size n share some allowed =
     let room : has_room (granted h owner) (row.elements elem size) n ≡ true =
-      ap (λ bs. has_room bs (row.elements elem size) n) (sym (granted-live_of h owner)) ∙ room_by (has_room (granted (live_of h) owner) (row.elements elem size) n) allowed in (
+    ap (λ bs. has_room bs (row.elements elem size) n) (sym (granted-live_of h owner)) ∙ room_by (has_room (granted (live_of h) owner) (row.elements elem size) n) allowed in (
       ap (λ b. cond b (points null) (cond (not (has_room (granted h owner) (row.elements elem size) n)) (points null) (row.allocates h owner elem size n))) some
           ∙ ap (λ b. cond (not b) (points null) (row.allocates h owner elem size n)) room,
       room_fits (granted h owner) elem size n some room,

@@ -43,9 +43,9 @@ told-put front byte short =
     let after = whole (front ++ byte ∷ []) (omega arith) in
     let one : 32 - length front ≡ suc (32 - (length front + 1)) = omega arith in
     let bytes : (told (front ++ byte ∷ [])).bytes ≡ set (told front).bytes (told front).len byte =
-      after.bytes ∙ ap (λ n. (front ++ byte ∷ []) ++ replicate (32 - n) 0) long ∙ append_assoc front (byte ∷ []) (replicate (32 - (length front + 1)) 0)
-      ∙ sym (set_behind front byte (32 - (length front + 1))) ∙ ap (λ n. set (front ++ replicate n 0) (length front) byte) (sym one)
-      ∙ ap (λ xs. set xs (length front) byte) (sym before.bytes) ∙ ap (λ n. set (told front).bytes n byte) (sym before.len) in
+    after.bytes ∙ ap (λ n. (front ++ byte ∷ []) ++ replicate (32 - n) 0) long ∙ append_assoc front (byte ∷ []) (replicate (32 - (length front + 1)) 0)
+    ∙ sym (set_behind front byte (32 - (length front + 1))) ∙ ap (λ n. set (front ++ replicate n 0) (length front) byte) (sym one)
+    ∙ ap (λ xs. set xs (length front) byte) (sym before.bytes) ∙ ap (λ n. set (told front).bytes n byte) (sym before.len) in
     let len : (told (front ++ byte ∷ [])).len ≡ (told front).len + 1 = after.len ∙ long ∙ ap (λ n. n + 1) (sym before.len) in
     let more : (told (front ++ byte ∷ [])).more ≡ (told front).more = after.more ∙ sym before.more in
     rw (← bytes) (rw (← len) (rw (← more) refl))
@@ -91,7 +91,7 @@ read_inside memory from i at now g short inside =
     let left : 33 - i ≡ suc (33 - (i + 1)) = omega arith in
     g.rest ∙ ap (λ n. option_map (λ more. g.front ++ more) (text_from memory n at)) left
     ∙ ap (option_map (λ more. g.front ++ more)) (read_one memory (33 - (i + 1)) at
-        ∙ ap (λ b. cond b (behind (byte_at memory at) (text_from memory (33 - (i + 1)) (at + 1))) None) inside)
+    ∙ ap (λ b. cond b (behind (byte_at memory at) (text_from memory (33 - (i + 1)) (at + 1))) None) inside)
 
 pub going_next : (memory : Memory) (from i at byte : ℕ) (now next : TextBytes) → Going memory from i at now → i < 33 → is_inside memory at 1 ≡ true → byte ≡ byte_at memory at → eqb byte 0 ≡ false →
     ((front : List ℕ) → now ≡ told front → length front < 33 → next ≡ told (front ++ byte ∷ [])) → Going memory from (i + 1) (at + 1) next
@@ -111,8 +111,8 @@ pub going_outside : (memory : Memory) (from i at : ℕ) (now : TextBytes) → Go
 going_outside memory from i at now g short outside =
     let left : 33 - i ≡ suc (33 - (i + 1)) = omega arith in
     sym (ap (option_map told) (g.rest ∙ ap (λ n. option_map (λ more. g.front ++ more) (text_from memory n at)) left
-        ∙ ap (option_map (λ more. g.front ++ more)) (read_one memory (33 - (i + 1)) at
-            ∙ ap (λ b. cond b (behind (byte_at memory at) (text_from memory (33 - (i + 1)) (at + 1))) None) outside)))
+    ∙ ap (option_map (λ more. g.front ++ more)) (read_one memory (33 - (i + 1)) at
+    ∙ ap (λ b. cond b (behind (byte_at memory at) (text_from memory (33 - (i + 1)) (at + 1))) None) outside)))
 
 no_more : (front : List ℕ) (now : TextBytes) → now ≡ told front → Some now ≡ option_map told (option_map (λ more. front ++ more) (Some []))
 no_more front now is = ap (λ t. Some t) (is ∙ ap told (sym (append-none front)))
@@ -126,8 +126,8 @@ pub going_end : (memory : Memory) (from i at byte : ℕ) (now : TextBytes) → G
 going_end memory from i at byte now g short inside is end =
     no_more g.front now g.shown
     ∙ sym (ap (option_map told) (read_inside memory from i at now g short inside
-        ∙ ap (λ b. option_map (λ more. g.front ++ more) (behind b (text_from memory (33 - (i + 1)) (at + 1)))) (sym is)
-        ∙ ap (λ b. option_map (λ more. g.front ++ more) (cond b (Some []) (option_map (λ more. byte ∷ more) (text_from memory (33 - (i + 1)) (at + 1))))) end))
+    ∙ ap (λ b. option_map (λ more. g.front ++ more) (behind b (text_from memory (33 - (i + 1)) (at + 1)))) (sym is)
+    ∙ ap (λ b. option_map (λ more. g.front ++ more) (cond b (Some []) (option_map (λ more. byte ∷ more) (text_from memory (33 - (i + 1)) (at + 1))))) end))
 
 pub going_past : (memory : Memory) (from i at : ℕ) (now : TextBytes) → Going memory from i at now → 33 ≤ i → Some now ≡ option_map told (text_from memory 33 from)
 going_past memory from i at now g past =

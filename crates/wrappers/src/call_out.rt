@@ -1,5 +1,5 @@
 //! `CallOut`: what a kernel call comes to.
-use sd_base::{Fat, FailKind};
+use sd_base::{FailKind, Fat};
 
 /// The bytes of a text that is printed.
 #[derive(Clone, Copy, PartialEq, Eq, Debug)]

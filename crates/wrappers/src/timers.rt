@@ -28,7 +28,14 @@ fn due_at(now: u32, distance: i32) -> u32
 }
 
 /// `set_timer(i, d, h, a)`: at the clock plus d the handler is to run with this argument.
-pub fn set_timer(kernel: &mut Tracked, owner: u8, id: i32, distance: i32, handler: u32, arg: i32) -> CallOut
+pub fn set_timer(
+    kernel: &mut Tracked,
+    owner: u8,
+    id: i32,
+    distance: i32,
+    handler: u32,
+    arg: i32,
+) -> CallOut
     requires driver { 0 < owner }
     requires owner { owner ≤ 4 }
     requires clock { kernel.old.kernel.now ≤ 2000000000 }

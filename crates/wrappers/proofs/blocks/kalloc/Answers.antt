@@ -21,7 +21,7 @@ returns-then-size-eq0-clause-serves c =
     let none : eqb c.args.size 0 ≡ true = grind (arith, nat_tests, c.if-size-eq0.true) in
     serves_nothing c.args.kernel.now c.args.owner (λ share h. row.kalloc h c.args.owner c.args.elem c.args.size c.args.n) _
     (λ h lawful proper stands. ap (λ b. cond b (points null) (cond (not (has_room (granted h c.args.owner) (row.elements c.args.elem c.args.size) c.args.n)) (points null)
-        (row.allocates h c.args.owner c.args.elem c.args.size c.args.n))) none)
+    (row.allocates h c.args.owner c.args.elem c.args.size c.args.n))) none)
 
 pub returns-in-Ok-clause-serves : goal.returns-in-Ok-clause-serves
 returns-in-Ok-clause-serves c =
@@ -32,10 +32,10 @@ returns-in-Ok-clause-serves c =
     serves_made c.args.kernel.now c.update.new.self c.args.owner (update.Grant (row.elements c.args.elem c.args.size) c.args.n false) c.in-Ok.reply
     (λ share h. row.kalloc h c.args.owner c.args.elem c.args.size c.args.n) _ served
     (λ h lawful proper stands made.
-        let fits = grant_made h c.args.owner c.args.elem c.args.size c.args.n c.args.kernel.now.kernel.claims.share some made.allowed in
-        let to : c.pointer.result ≡ row.block (next_base (granted h c.args.owner)) c.args.size (count_of c.args.n) =
-          c.pointer.ensures (next_base (granted h c.args.owner)) (count_of c.args.n) made.replied (simp to_z-of_z fits.1.count) fits.1.few fits.1.ends in
-        fits.0 ∙ ap (λ (p : Fat). grants p (update.Grant (row.elements c.args.elem c.args.size) c.args.n false)) (sym to))
+    let fits = grant_made h c.args.owner c.args.elem c.args.size c.args.n c.args.kernel.now.kernel.claims.share some made.allowed in
+    let to : c.pointer.result ≡ row.block (next_base (granted h c.args.owner)) c.args.size (count_of c.args.n) =
+    c.pointer.ensures (next_base (granted h c.args.owner)) (count_of c.args.n) made.replied (simp to_z-of_z fits.1.count) fits.1.few fits.1.ends in
+    fits.0 ∙ ap (λ (p : Fat). grants p (update.Grant (row.elements c.args.elem c.args.size) c.args.n false)) (sym to))
 
 pub returns-in-Err-clause-serves : goal.returns-in-Err-clause-serves
 returns-in-Err-clause-serves c =

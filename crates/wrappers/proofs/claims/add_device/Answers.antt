@@ -12,6 +12,6 @@ pub returns-clause-serves : goal.returns-clause-serves
 returns-clause-serves c =
     let fits-id : SFits w32 c.args.id = c.ranges.id in
     let served : ServesRow c.args.kernel.now c.args.owner (λ share h. ruled share h c.args.owner (update.Device c.args.id)) c.made.result c.made.new.kernel =
-      simp to_z-of_z at c.made.ensures.serves in
+    simp to_z-of_z at c.made.ensures.serves in
     serves_as c.args.kernel.now c.made.new.kernel c.args.owner (λ share h. ruled share h c.args.owner (update.Device c.args.id))
     (λ share h. row.add_device h c.args.owner c.args.id) c.made.result (λ h stands. device_row c.args.owner c.args.id c.args.kernel.now.kernel.claims.share h) served

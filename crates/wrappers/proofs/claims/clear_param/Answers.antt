@@ -12,6 +12,6 @@ pub returns-clause-serves : goal.returns-clause-serves
 returns-clause-serves c =
     let fits-key : SFits w32 c.args.key = c.ranges.key in
     let served : ServesRow c.args.kernel.now c.args.owner (λ share h. ruled share h c.args.owner (update.ClearParam c.args.key)) c.made.result c.made.new.kernel =
-      simp to_z-of_z at c.made.ensures.serves in
+    simp to_z-of_z at c.made.ensures.serves in
     serves_as c.args.kernel.now c.made.new.kernel c.args.owner (λ share h. ruled share h c.args.owner (update.ClearParam c.args.key))
     (λ share h. row.clear_param h c.args.owner c.args.key) c.made.result (λ h stands. clear_param_row c.args.owner c.args.key c.args.kernel.now.kernel.claims.share h) served

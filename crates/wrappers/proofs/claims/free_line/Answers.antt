@@ -12,6 +12,6 @@ pub returns-clause-serves : goal.returns-clause-serves
 returns-clause-serves c =
     let fits-line : SFits w32 c.args.line = c.ranges.line in
     let served : ServesRow c.args.kernel.now c.args.owner (λ share h. ruled share h c.args.owner (update.FreeLine c.args.line)) c.made.result c.made.new.kernel =
-      simp to_z-of_z at c.made.ensures.serves in
+    simp to_z-of_z at c.made.ensures.serves in
     serves_as c.args.kernel.now c.made.new.kernel c.args.owner (λ share h. ruled share h c.args.owner (update.FreeLine c.args.line))
     (λ share h. row.free_line h c.args.owner c.args.line) c.made.result (λ h stands. free_line_row c.args.owner c.args.line c.args.kernel.now.kernel.claims.share h) served

@@ -16,7 +16,7 @@ returns c =
     let fits-key : SFits w32 c.args.key = c.ranges.key in
     let reads : claims.OfEachHistory c.kernel.result.now.claims (λ h. c.get_param.result ≡ slice_get (values_of h c.args.key) 0) = simp to_z-of_z at c.get_param.ensures.reads in
     let read : OfEachHistory c.args.kernel.now (λ h. c.get_param.result ≡ slice_get (values_of h c.args.key) 0) =
-      of_claims c.kernel.result.now c.args.kernel.now (λ h. c.get_param.result ≡ slice_get (values_of h c.args.key) 0) c.kernel.ensures reads in
+    of_claims c.kernel.result.now c.args.kernel.now (λ h. c.get_param.result ≡ slice_get (values_of h c.args.key) 0) c.kernel.ensures reads in
     λ h lawful proper stands.
-        to_z-of_z w32 c.unwrap_or.result (record { sfits = c.unwrap_or.type_inv }) ∙ c.unwrap_or.ensures ∙ ap (λ o. unwrap_or o (pos 0)) (read h lawful proper stands)
-        ∙ first_value (values_of h c.args.key)
+    to_z-of_z w32 c.unwrap_or.result (record { sfits = c.unwrap_or.type_inv }) ∙ c.unwrap_or.ensures ∙ ap (λ o. unwrap_or o (pos 0)) (read h lawful proper stands)
+    ∙ first_value (values_of h c.args.key)

@@ -13,6 +13,6 @@ returns-clause-serves c =
     let fits-key : SFits w32 c.args.key = c.ranges.key in
     let fits-value : SFits w32 c.args.value = c.ranges.value in
     let served : ServesRow c.args.kernel.now c.args.owner (λ share h. ruled share h c.args.owner (update.Param c.args.key c.args.value)) c.made.result c.made.new.kernel =
-      simp to_z-of_z at c.made.ensures.serves in
+    simp to_z-of_z at c.made.ensures.serves in
     serves_as c.args.kernel.now c.made.new.kernel c.args.owner (λ share h. ruled share h c.args.owner (update.Param c.args.key c.args.value))
     (λ share h. row.set_param h c.args.owner c.args.key c.args.value) c.made.result (λ h stands. param_row c.args.owner c.args.key c.args.value c.args.kernel.now.kernel.claims.share h) served

@@ -25,4 +25,4 @@ returns-in-Err-clause-serves c =
     let served : ServesTracked c.args.kernel.now c.args.who.owner (update.Unlock c.args.lock c.args.who.task) (Err c.in-Err.refusal) c.update.new.self = simp to_z-of_z at c.in-Err.ensures.serves in
     subst (λ out. ServesRow c.args.kernel.now c.args.who.owner (λ share h. row.unlock h c.args.who c.args.lock) out c.update.new.self) (sym c.not_let_go.ensures)
     (serves_refused c.args.kernel.now c.update.new.self c.args.who.owner (update.Unlock c.args.lock c.args.who.task) c.in-Err.refusal (λ share h. row.unlock h c.args.who c.args.lock) _
-        served c.in-Err.ensures.err (λ h lawful proper stands refused. unlock_refused h c.args.who c.args.lock c.args.kernel.now.kernel.claims.share c.in-Err.refusal refused))
+    served c.in-Err.ensures.err (λ h lawful proper stands refused. unlock_refused h c.args.who c.args.lock c.args.kernel.now.kernel.claims.share c.in-Err.refusal refused))

@@ -16,7 +16,7 @@ returns-then-not-has_port c =
     let fits-port : SFits w32 c.args.port = c.ranges.port in
     let reads : claims.OfEachHistory c.kernel.result.now.claims (λ h. c.has_port.result ≡ holds_port h c.args.owner c.args.port) = simp to_z-of_z at c.has_port.ensures.reads in
     let held : OfEachHistory c.args.kernel.now (λ h. c.has_port.result ≡ holds_port h c.args.owner c.args.port) =
-      of_claims c.kernel.result.now c.args.kernel.now (λ h. c.has_port.result ≡ holds_port h c.args.owner c.args.port) c.kernel.ensures reads in
+    of_claims c.kernel.result.now c.args.kernel.now (λ h. c.has_port.result ≡ holds_port h c.args.owner c.args.port) c.kernel.ensures reads in
     λ h lawful proper stands. sym (ap (λ b. cond b (Some (nat_abs c.args.port)) None) (sym (held h lawful proper stands) ∙ c.if-not-has_port.true))
 
 pub returns : goal.returns
@@ -24,7 +24,7 @@ returns c =
     let fits-port : SFits w32 c.args.port = c.ranges.port in
     let reads : claims.OfEachHistory c.kernel.result.now.claims (λ h. c.has_port.result ≡ holds_port h c.args.owner c.args.port) = simp to_z-of_z at c.has_port.ensures.reads in
     let held : OfEachHistory c.args.kernel.now (λ h. c.has_port.result ≡ holds_port h c.args.owner c.args.port) =
-      of_claims c.kernel.result.now c.args.kernel.now (λ h. c.has_port.result ≡ holds_port h c.args.owner c.args.port) c.kernel.ensures reads in
+    of_claims c.kernel.result.now c.args.kernel.now (λ h. c.has_port.result ≡ holds_port h c.args.owner c.args.port) c.kernel.ensures reads in
     let number : c.port_number.result ≡ number_of 65536 c.args.port = simp to_z-of_z at c.port_number.ensures in
     λ h lawful proper stands.
-        number ∙ held_number c.args.kernel.now.kernel.claims.share h c.args.owner c.args.port lawful (sym (held h lawful proper stands) ∙ c.if-not-has_port.false)
+    number ∙ held_number c.args.kernel.now.kernel.claims.share h c.args.owner c.args.port lawful (sym (held h lawful proper stands) ∙ c.if-not-has_port.false)

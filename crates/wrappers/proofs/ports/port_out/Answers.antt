@@ -24,5 +24,5 @@ returns-in-Some-clause-reads c =
     let fits-port : SFits w32 c.args.port = c.ranges.port in
     let port : ReadsPort c.args.kernel.now c.args.owner c.args.port (Some c.in-Some.number) = simp to_z-of_z at c.in-Some.ensures in
     λ h lawful proper stands.
-        subst (λ z. IsRead (row.port_out h c.args.owner c.args.port c.args.v) (Said (Out c.in-Some.number z))) (sym (to_z-of_z w32 c.args.v c.ranges.v))
-        (writes_out h c.args.owner c.args.port c.args.v c.in-Some.number (port h lawful proper stands))
+    subst (λ z. IsRead (row.port_out h c.args.owner c.args.port c.args.v) (Said (Out c.in-Some.number z))) (sym (to_z-of_z w32 c.args.v c.ranges.v))
+    (writes_out h c.args.owner c.args.port c.args.v c.in-Some.number (port h lawful proper stands))

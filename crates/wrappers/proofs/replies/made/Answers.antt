@@ -24,7 +24,7 @@ returns-in-Ok-clause-serves c =
 pub returns-in-Err-clause-serves : goal.returns-in-Err-clause-serves
 returns-in-Err-clause-serves c =
     let number : to_z w32 (of_z w32 c.number_of.result) ≡ number_for c.in-Err.refusal =
-      ap (λ z. to_z w32 (of_z w32 z)) c.number_of.ensures ∙ number_fits c.in-Err.refusal in
+    ap (λ z. to_z w32 (of_z w32 z)) c.number_of.ensures ∙ number_fits c.in-Err.refusal in
     subst (λ z. ServesRow c.args.kernel.now c.args.owner (λ share h. ruled share h c.args.owner c.args.update) (Reply z) c.update.new.self) (sym number)
     (serves_refused c.args.kernel.now c.update.new.self c.args.owner c.args.update c.in-Err.refusal (λ share h. ruled share h c.args.owner c.args.update) _
-        c.in-Err.ensures.serves c.in-Err.ensures.err (λ h lawful proper stands refused. ap (by_refusal c.args.update) refused))
+    c.in-Err.ensures.serves c.in-Err.ensures.err (λ h lawful proper stands refused. ap (by_refusal c.args.update) refused))

@@ -33,8 +33,8 @@ Takes t who first old new name = TakesAnswer t (λ h. port_by name h who first) 
 pub returns-in-Kalloc-clause-serves : goal.returns-in-Kalloc-clause-serves
 returns-in-Kalloc-clause-serves c =
     let served : ServesRow c.args.kernel.now c.args.who.owner (λ share h. row.kalloc h c.args.who.owner c.args.call.now.elem c.args.call.now.size (count_at c.args.call.now)) c.kalloc.result c.kalloc.new.kernel =
-      subst (λ n. ServesRow c.args.kernel.now c.args.who.owner (λ share h. row.kalloc h c.args.who.owner c.args.call.now.elem c.args.call.now.size n) c.kalloc.result c.kalloc.new.kernel)
-      (to_z-of_z w64 c.number_at.result (record { sfits = c.number_at.type_inv }) ∙ c.number_at.ensures) c.kalloc.ensures.serves in
+    subst (λ n. ServesRow c.args.kernel.now c.args.who.owner (λ share h. row.kalloc h c.args.who.owner c.args.call.now.elem c.args.call.now.size n) c.kalloc.result c.kalloc.new.kernel)
+    (to_z-of_z w64 c.number_at.result (record { sfits = c.number_at.type_inv }) ∙ c.number_at.ensures) c.kalloc.ensures.serves in
     subst (Serves c.args.kernel.now c.args.memory.now c.args.devices.now c.args.who c.args.call.now c.args.first c.args.second c.args.third c.kalloc.result c.kalloc.new.kernel) (sym c.in-Kalloc.is) served
 
 pub returns-in-Kalloc-clause-takes : goal.returns-in-Kalloc-clause-takes
@@ -266,7 +266,7 @@ returns-in-Printd-clause-serves c =
     let fits-first : SFits w32 c.args.first = c.ranges.first in
     subst (Serves c.args.kernel.now c.args.memory.now c.args.devices.now c.args.who c.args.call.now c.args.first c.args.second c.args.third _ c.args.kernel.now) (sym c.in-Printd.is)
     (serves_read c.args.kernel.now c.args.who.owner (λ h. row.printd c.args.first) _
-        (λ h lawful proper stands. record { answer = ap (λ z. Said (Print z)) (to_z-of_z w32 c.args.first fits-first); quiet = refl }))
+    (λ h lawful proper stands. record { answer = ap (λ z. Said (Print z)) (to_z-of_z w32 c.args.first fits-first); quiet = refl }))
 
 pub returns-in-Printd-clause-takes : goal.returns-in-Printd-clause-takes
 returns-in-Printd-clause-takes c = subst (Takes c.args.kernel.now c.args.who c.args.first c.args.devices.now c.args.devices.now) (sym c.in-Printd.is) (λ h lawful proper stands. refl)

@@ -12,6 +12,6 @@ pub returns-clause-serves : goal.returns-clause-serves
 returns-clause-serves c =
     let fits-domain : SFits w32 c.args.domain = c.ranges.domain in
     let served : ServesRow c.args.kernel.now c.args.owner (λ share h. ruled share h c.args.owner (update.DropHold c.args.domain)) c.made.result c.made.new.kernel =
-      simp to_z-of_z at c.made.ensures.serves in
+    simp to_z-of_z at c.made.ensures.serves in
     serves_as c.args.kernel.now c.made.new.kernel c.args.owner (λ share h. ruled share h c.args.owner (update.DropHold c.args.domain))
     (λ share h. row.drop_hold h c.args.owner c.args.domain) c.made.result (λ h stands. drop_hold_row c.args.owner c.args.domain c.args.kernel.now.kernel.claims.share h) served

@@ -12,6 +12,6 @@ pub returns-clause-serves : goal.returns-clause-serves
 returns-clause-serves c =
     let fits-arg : SFits w32 c.args.arg = c.ranges.arg in
     let served : ServesRow c.args.kernel.now c.args.owner (λ share h. ruled share h c.args.owner (update.Work c.args.handler c.args.arg)) c.made.result c.made.new.kernel =
-      simp to_z-of_z at c.made.ensures.serves in
+    simp to_z-of_z at c.made.ensures.serves in
     serves_as c.args.kernel.now c.made.new.kernel c.args.owner (λ share h. ruled share h c.args.owner (update.Work c.args.handler c.args.arg))
     (λ share h. row.queue_work h c.args.owner c.args.handler c.args.arg) c.made.result (λ h stands. work_row c.args.owner c.args.handler c.args.arg c.args.kernel.now.kernel.claims.share h) served

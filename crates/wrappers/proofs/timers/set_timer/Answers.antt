@@ -28,8 +28,8 @@ returns-clause-serves c =
     let near : row.is_distance c.args.distance ≡ true = sym tested ∙ c.if-not-is_distance.false in
     let due : c.due_at-due.result ≡ c.kernel.result.now.now + nat_abs c.args.distance = simp to_z-of_z at c.due_at-due.ensures in
     let served : ServesRow c.args.kernel.now c.args.owner (λ share h. ruled share h c.args.owner (update.Timer c.args.id c.due_at-due.result c.args.handler c.args.arg)) c.made.result c.made.new.kernel =
-      simp to_z-of_z at c.made.ensures.serves in
+    simp to_z-of_z at c.made.ensures.serves in
     serves_as c.args.kernel.now c.made.new.kernel c.args.owner (λ share h. ruled share h c.args.owner (update.Timer c.args.id c.due_at-due.result c.args.handler c.args.arg))
     (λ share h. row.set_timer h c.args.owner c.args.id c.args.distance c.args.handler c.args.arg) c.made.result
     (λ h stands. timer_row c.args.owner c.args.id c.args.distance c.due_at-due.result c.args.handler c.args.arg near c.args.kernel.now.kernel.claims.share h
-        (due ∙ ap (λ (k : Kernel). k.now + nat_abs c.args.distance) c.kernel.ensures ∙ ap (λ n. n + nat_abs c.args.distance) stands.kernel.clock)) served
+    (due ∙ ap (λ (k : Kernel). k.now + nat_abs c.args.distance) c.kernel.ensures ∙ ap (λ n. n + nat_abs c.args.distance) stands.kernel.clock)) served

@@ -1,0 +1,18 @@
+use Rattle.std.proofs.lemmas.Int.{to_z-of_z}
+use mir.Syntax.{w32}
+use mir.Val.{SFits}
+use Rattle.sd_base.specs.declared.history.Update.TheVariants as update
+use Rattle.wrappers.specs.Serving.{ServesRow}
+use Rattle.wrappers.specs.Rows as row
+use Rattle.wrappers.proofs.Rules.{ruled, param_row}
+use Rattle.wrappers.proofs.Tracking.{serves_as}
+use Rattle.wrappers.proofs.claims.set_param.Goals as goal
+
+pub returns-clause-serves : goal.returns-clause-serves
+returns-clause-serves c =
+    let fits-key : SFits w32 c.args.key = c.ranges.key in
+    let fits-value : SFits w32 c.args.value = c.ranges.value in
+    let served : ServesRow c.args.kernel.now c.args.owner (λ share h. ruled share h c.args.owner (update.Param c.args.key c.args.value)) c.made.result c.made.new.kernel =
+    simp to_z-of_z at c.made.ensures.serves in
+    serves_as c.args.kernel.now c.made.new.kernel c.args.owner (λ share h. ruled share h c.args.owner (update.Param c.args.key c.args.value))
+    (λ share h. row.set_param h c.args.owner c.args.key c.args.value) c.made.result (λ h stands. param_row c.args.owner c.args.key c.args.value c.args.kernel.now.kernel.claims.share h) served

@@ -1,0 +1,17 @@
+use Rattle.std.proofs.lemmas.Int.{to_z-of_z}
+use mir.Syntax.{w32}
+use mir.Val.{SFits}
+use Rattle.sd_base.specs.declared.history.Update.TheVariants as update
+use Rattle.wrappers.specs.Serving.{ServesRow}
+use Rattle.wrappers.specs.Rows as row
+use Rattle.wrappers.proofs.Rules.{ruled, drop_hold_row}
+use Rattle.wrappers.proofs.Tracking.{serves_as}
+use Rattle.wrappers.proofs.shares.drop_hold.Goals as goal
+
+pub returns-clause-serves : goal.returns-clause-serves
+returns-clause-serves c =
+    let fits-domain : SFits w32 c.args.domain = c.ranges.domain in
+    let served : ServesRow c.args.kernel.now c.args.owner (λ share h. ruled share h c.args.owner (update.DropHold c.args.domain)) c.made.result c.made.new.kernel =
+    simp to_z-of_z at c.made.ensures.serves in
+    serves_as c.args.kernel.now c.made.new.kernel c.args.owner (λ share h. ruled share h c.args.owner (update.DropHold c.args.domain))
+    (λ share h. row.drop_hold h c.args.owner c.args.domain) c.made.result (λ h stands. drop_hold_row c.args.owner c.args.domain c.args.kernel.now.kernel.claims.share h) served

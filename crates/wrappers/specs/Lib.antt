@@ -1,0 +1,6 @@
+pub mod Served
+pub mod Text
+pub mod Contexts
+pub mod Rows
+pub mod Replies
+pub mod Serving

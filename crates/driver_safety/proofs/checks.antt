@@ -1,0 +1,5 @@
+pub mod Sounding
+pub mod Evaluations
+pub mod NumberedChecks
+pub mod TestedChecks
+pub mod LineRules

@@ -1,0 +1,4 @@
+pub mod PlaceRules
+pub mod ReadRules
+pub mod ExpressionRules
+pub mod OperatorRules

@@ -1,0 +1,5 @@
+pub mod Lying
+pub mod Apart
+pub mod Stores
+pub mod StoredValues
+pub mod Growing

@@ -1,0 +1,5 @@
+pub mod Passing
+pub mod Reaching
+pub mod TypeFacts
+pub mod Goodness
+pub mod Derivations

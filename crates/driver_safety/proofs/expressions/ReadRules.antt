@@ -35,7 +35,7 @@ use Rattle.checked_tree.proofs.Outcomes.{safe_bind}
 use Rattle.checked_tree.proofs.Peeking.{eval_peek}
 use Rattle.deputy_types.specs.declared.element.Element.{Element}
 use Rattle.deputy_types.specs.declared.element.Element.TheVariants as element
-use Rattle.deputy_types.specs.Declarations.{in_bytes, own as own_edge, up_to}
+use Rattle.deputy_types.specs.Declarations.{own as own_edge, up_to, with_bytes}
 use Rattle.deputy_types.specs.Fitting.{Fits, FitsBounds, HoldsFitting, IsInText, place_value, member_value, shape_size}
 use Rattle.deputy_types.specs.Table.{Table, element_at, elem_size, member as table_member}
 use Rattle.deputy_types.specs.UnitLayout.{elem_shape}
@@ -220,7 +220,10 @@ module _ (f : CheckedFn) (ctx : Context) (blocks : List Block) (st : State) wher
 
       sentinel_shape : (n : ℕ) → IsCounted n (pos 0) (element.Sentinel n)
       unfolding elem_shape
-      sentinel_shape n = record { shape_is = refl }
+      sentinel_shape n = record { shape_is = ap (λ (m : ℕ). shape.Pointer n (bounds.Within own_edge (with_bytes own_edge (pos m)))) (none (unwrap_or (elem_size ctx.table.types.elements ctx.table.extents n) 0)) }
+        where
+          none : (size : ℕ) → 0 ≡ 0 * size
+          none size = omega arith
 
       abbrev IsHere : Element → ℤ → Type 0
       IsHere key z = (a : ℕ) × (z ≡ pos a) × IsElementAt ctx blocks key a

@@ -4,6 +4,7 @@ use Rattle.std.specs.List.{Contains}
 use Rattle.sd_base.specs.Blocks.{Block, block_end}
 use Rattle.checked_tree.specs.declared.expressions.CheckedExpr.{CheckedExpr}
 use Rattle.checked_tree.specs.declared.shapes.Member.{Member}
+use Rattle.checked_tree.specs.declared.shapes.Scalar.{Scalar}
 use Rattle.checked_tree.specs.declared.shapes.Scalar.TheVariants.{U8}
 use Rattle.checked_tree.specs.declared.shapes.Shape.{Shape}
 use Rattle.checked_tree.specs.declared.shapes.Shape.TheVariants as shape
@@ -27,12 +28,14 @@ use Rattle.deputy_rules.specs.declared.derived.UnionPlace.{UnionPlace}
 use Rattle.deputy_rules.specs.declared.derived.Value.{Value}
 use Rattle.deputy_rules.specs.declared.derived.Value.TheVariants as value
 use Rattle.deputy_rules.specs.declared.derived.Whole.{Whole}
+use Rattle.deputy_rules.specs.declared.derived.Written.{Written}
+use Rattle.deputy_rules.specs.declared.derived.Written.TheVariants as written
 use Rattle.deputy_rules.specs.Context.{Context}
 use Rattle.deputy_rules.specs.Sums.{side}
 use Rattle.deputy_rules.specs.SumValues.{part_at, PartHasValue, HasValue}
 use Rattle.deputy_rules.specs.Values.{container, size_of}
 use Rattle.driver_safety.specs.Reaching.{Reaches, IsOpenAt}
-use Rattle.driver_safety.specs.TypeFacts.{IsType, key_shape}
+use Rattle.driver_safety.specs.TypeFacts.{IsInteger, IsType, key_shape}
 
 -- ---- values
 -- an integer, in the range of its type, and the same number in a check
@@ -115,9 +118,15 @@ pub record IsUnion (ctx : Context) (blocks : List Block) (st : State) (u : Union
   pub lies : IsStructAt ctx blocks u.structure address
 
 -- ---- what was derived
+-- what is written as a number has an integer type
+abbrev pub HasType : Scalar → Written → Type 0
+HasType s (written.Number n plain) = IsInteger s
+HasType s (written.Constant z) = Unit {0}
+HasType s written.Other = Unit {0}
+
 -- in a state in which the function's checks are tested, its evaluation is not wild, and gives what it is
 abbrev pub IsValue : CheckedFn → Context → List Block → State → Value → Type 0
-IsValue f ctx blocks st (value.Int w) = Safe (eval [] f st w.form) (IsWhole st w)
+IsValue f ctx blocks st (value.Int w) = HasType w.scalar w.written × Safe (eval [] f st w.form) (IsWhole st w)
 IsValue f ctx blocks st (value.Pointer p) = Safe (eval [] f st p.form) (IsPointer ctx blocks st p)
 IsValue f ctx blocks st value.Null = Unit {0}
 

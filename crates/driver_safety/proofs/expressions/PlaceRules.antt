@@ -226,10 +226,11 @@ module _ (f : CheckedFn) (ctx : Context) (blocks : List Block) (st : State) wher
         → IsPlace ctx blocks st (record { form = e; at = at; source = source.Text }) v
     text_place v e at h t = record { address = t.at; is = t.is; at = h; lies = subst (IsInText blocks) t.is t }
 
-    pub through_text_sound : (p : Pointed) → p.nullterm ≡ true → Sound f st ctx.first (through_text ctx p) (λ d. IsValue f ctx blocks st (value.Pointer p) → IsDerived f ctx blocks st d)
+    pub through_text_sound : (p : Pointed) → Sound f st ctx.first (through_text ctx p)
+        (λ d. p.nullterm ≡ true → IsValue f ctx blocks st (value.Pointer p) → IsDerived f ctx blocks st d)
     unfolding through_text
-    through_text_sound p text =
-        then_sound f st ctx.first _ _ _ _ (not_null_sound p) (λ a. pure_sound f st ctx.first _ _ (λ safe known.
+    through_text_sound p =
+        then_sound f st ctx.first _ _ _ _ (not_null_sound p) (λ a. pure_sound f st ctx.first _ _ (λ safe text known.
             safe_same _ _ _ (eval-Through f st p.form a) (safe_bind (eval [] f st p.form) _ _ _ known (λ v is.
             safe_bind (tests [] f st a) _ _ _ (safe v is) (λ u n. text_place v (form.Through p.form a) p.at is.at
               (text_there (key_shape ctx.table p.elem) is.lo is.hi v
@@ -237,7 +238,7 @@ module _ (f : CheckedFn) (ctx : Context) (blocks : List Block) (st : State) wher
 
     pub followed_sound : (p : Pointed) → Sound f st ctx.first (followed ctx p) (λ d. IsValue f ctx blocks st (value.Pointer p) → IsDerived f ctx blocks st d)
     unfolding followed
-    followed_sound p = if_sound f st ctx.first p.nullterm _ _ _ (λ e. through_text_sound p e) (λ e. through_sound p e)
+    followed_sound p = if_sound f st ctx.first p.nullterm _ _ _ (λ e. weaker f st ctx.first _ _ _ (λ d q. q e) (through_text_sound p)) (λ e. through_sound p e)
 
     -- ---- `e[i]`
     -- an `unsigned` does not step back
@@ -287,7 +288,7 @@ module _ (f : CheckedFn) (ctx : Context) (blocks : List Block) (st : State) wher
         let at : Sum = moved_sum p.at i (pos size) in
         then_sound f st ctx.first _ _ _ _ (index_checks_sound p i size) (λ ids. pure_sound f st ctx.first _ _ (λ passes known whole.
             safe_same _ _ _ (eval-Element f st p.form i.form size ids)
-            (safe_bind (eval [] f st p.form) _ _ _ known (λ v is. safe_bind (eval [] f st i.form) _ _ _ whole (λ n in'.
+            (safe_bind (eval [] f st p.form) _ _ _ known (λ v is. safe_bind (eval [] f st i.form) _ _ _ whole.1 (λ n in'.
             safe_bind (tests [] f st ids) _ _ _ (passes v n is in') (λ u l.
             let low = low_or (is_unsigned i.scalar) (IsTrue (int_le is.lo (v +ℤ (pos size *ℤ n)))) (λ e. unsigned_low p v is i.scalar n plain l.0 e in'.range) l.1 in
             let t = there p v (pos size *ℤ n) is plain l.0 (step_of size n) low l.2 in
@@ -594,7 +595,7 @@ module _ (f : CheckedFn) (ctx : Context) (blocks : List Block) (st : State) wher
                 used = subst (λ (o : Option (ℕ × ℤ)). is_used st.memory.bytes a t o ≡ true) (sym found.arm_is) (selected a t u.part found.union x.constant found.union_is same);
                 at = omega (arith, moved);
               };
-            })))))
+            }))))))
 
     arm_sound : (u : UnionPlace) (name : List ℕ) → Sound f st ctx.first (arm_place ctx u name) (λ d. IsDerived f ctx blocks st (derived.Union u) → IsDerived f ctx blocks st d)
     unfolding arm_place

@@ -361,7 +361,7 @@ module _ (f : CheckedFn) (ctx : Context) (blocks : List Block) (st : State) (goo
       let at : Sum = moved_sum p.at i (step_size how size) in
       then_sound f st ctx.first _ _ _ _ (move_checks_sound how p i size) (λ ids. pure_sound f st ctx.first _ _ (λ passes known whole.
       safe_same _ _ _ (eval-Moved f st how p.form i.form size ids)
-      (safe_bind (parts how (eval [] f st p.form) (eval [] f st i.form)) _ _ _ (parts_safe how (eval [] f st p.form) (eval [] f st i.form) _ _ known whole) (λ x is.
+      (safe_bind (parts how (eval [] f st p.form) (eval [] f st i.form)) _ _ _ (parts_safe how (eval [] f st p.form) (eval [] f st i.form) _ _ known whole.1) (λ x is.
       let v : ℤ = x.0 in
       let n : ℤ = x.1 in
       let here : IsPointer ctx blocks st p v = is.0 in
@@ -383,4 +383,4 @@ module _ (f : CheckedFn) (ctx : Context) (blocks : List Block) (st : State) (goo
         high = here.high;
         fits = subst (λ (y : ℤ). Reaches blocks ctx.table.elems ctx.table.structs own false here.lo here.hi y) m.is m.fits;
         sure = λ g. zero_not m.at m.some;
-      })))))
+      }))))))

@@ -96,13 +96,13 @@ module _ (f : CheckedFn) (ctx : Context) (blocks : List Block) (st : State) wher
   unfolding side
   integer_is e s z h range =
       let seen = eval_peek [] f st e z h in
-      safe_same _ _ _ h (record { range = range; read = atom_reads st e z seen (of_value s z range); is = atom_is st e z seen })
+      (tt, safe_same _ _ _ h (record { range = range; read = atom_reads st e z seen (of_value s z range); is = atom_is st e z seen }))
 
   -- whatever evaluates to a number in the range of its type
   pub integer_safe : (e : CheckedExpr) (s : Scalar) → Safe (eval [] f st e) (λ z. IsTrue (is_of s z)) → IsValue f ctx blocks st (integer e s)
   unfolding side
-  integer_safe e s h = safe_weaker (eval [] f st e) (λ z. IsTrue (is_of s z)) (IsWhole st (record { form = e; scalar = s; written = written.Other })) h
-      (λ z is range. let seen = eval_peek [] f st e z is in record { range = range; read = atom_reads st e z seen (of_value s z range); is = atom_is st e z seen })
+  integer_safe e s h = (tt, safe_weaker (eval [] f st e) (λ z. IsTrue (is_of s z)) (IsWhole st (record { form = e; scalar = s; written = written.Other })) h
+      (λ z is range. let seen = eval_peek [] f st e z is in record { range = range; read = atom_reads st e z seen (of_value s z range); is = atom_is st e z seen }))
 
   -- an evaluated pointer expression
   pub pointer_has : (e : CheckedExpr) (key : Element) (nullterm : Bool) (low high : Sum) (v lo hi : ℤ) → eval [] f st e ≡ Ok v → IsTrue (is_word v) → IsType ctx.table key

@@ -1,3 +1,4 @@
+pub mod Reached
 pub mod Sounding
 pub mod Evaluations
 pub mod NumberedChecks

@@ -3,3 +3,5 @@ pub mod Reaching
 pub mod TypeFacts
 pub mod Goodness
 pub mod Derivations
+pub mod WrittenNumbers
+pub mod ExpressionLaw

@@ -1,5 +1,5 @@
 -- What a check that a rule asks for says of a state, and a check of a function that tests it.
-use Rattle.std.specs.Prelude.{◌≡◌, ◌≢◌, ◌⊎◌, IsTrue, ℕ, ◌+◌, ◌<◌, ◌^◌, ◌==◌, List, ℤ, pos, negsuc, ◌-ℤ◌, int_le, Bool, true, not, ◌||◌, Option, Some, None, slice_get}
+use Rattle.std.specs.Prelude.{◌≡◌, ◌≢◌, ◌⊎◌, IsTrue, ℕ, ◌+◌, ◌<◌, ◌^◌, ◌==◌, List, ◌++◌, ℤ, pos, negsuc, ◌-ℤ◌, int_le, Bool, true, not, ◌||◌, Option, Some, None, slice_get}
 use Rattle.std.specs.List.{list_all}
 use Rattle.byte_memory.specs.Bytes.{bytes_at}
 use Rattle.byte_memory.specs.Tested.{is_inside}
@@ -13,6 +13,7 @@ use Rattle.checked_tree.specs.Eval.{test, check_of}
 use Rattle.deputy_rules.specs.declared.asked.Asked.{Asked}
 use Rattle.deputy_rules.specs.declared.asked.AskedCond.{AskedCond}
 use Rattle.deputy_rules.specs.declared.asked.AskedCond.TheVariants as asked
+use Rattle.deputy_rules.specs.Numbering.{Numbered}
 use Rattle.deputy_rules.specs.SumValues.{part_at, parts_at, PartHasValue, HaveValues}
 
 abbrev pub sum_at : State → Sum → ℤ
@@ -71,3 +72,12 @@ pub record IsTested (f : CheckedFn) (st : State) (id : ℕ) (cond : AskedCond) :
 -- the checks that were asked for stand in the function, behind its first ones
 pub record AreTested (f : CheckedFn) (st : State) (first : ℕ) (all : List Asked) : Type 0 where
   pub each : (k : ℕ) (q : Asked) → slice_get all k ≡ Some q → IsTested f st (first + (k + 1)) q.cond
+
+-- the one list is the front of the other
+abbrev pub IsFront : {A : Type 0} → List A → List A → Type 0
+IsFront {A = A} s t = (more : List A) × (t ≡ s ++ more)
+
+-- a function in which the atoms and checks stand that were numbered so far
+pub record StandIn (f : CheckedFn) (n : Numbered) : Type 0 where
+  pub atoms : IsFront n.atoms f.atoms
+  pub checks : IsFront n.checks f.checks

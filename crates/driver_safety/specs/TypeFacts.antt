@@ -1,5 +1,5 @@
 -- What the laws take of the types of a text and of a function's slots. Each is a fact about what the declarations of a text come to.
-use Rattle.std.specs.Prelude.{◌≡◌, ◌≢◌, ℕ, ◌+◌, ◌*◌, ◌<◌, ◌≤◌, Bool, true, false, List, [], ◌∷◌, All, ℤ, Option, Some, None, slice_get}
+use Rattle.std.specs.Prelude.{◌≡◌, ◌≢◌, ◌⊎◌, ℕ, ◌+◌, ◌*◌, ◌<◌, ◌≤◌, Bool, true, false, List, [], ◌∷◌, All, ℤ, Option, Some, None, slice_get}
 use Rattle.c_tree.specs.Slots.{hidden_slot}
 use Rattle.c_tree.specs.declared.types.TypeName.{TypeName}
 use Rattle.checked_tree.specs.declared.shapes.Bounds.{Bounds}
@@ -81,9 +81,14 @@ abbrev pub IsBaseOf : StructShape → Option ℕ → Type 0
 IsBaseOf t None = Unit {0}
 IsBaseOf t (Some k) = IsSibling t k
 
+-- what is counted is an integer
+abbrev pub IsIntegerMember : StructShape → ℕ → Type 0
+IsIntegerMember t k = (m : Member) × (slice_get t.members k ≡ Some m) × (s : Scalar) × (m.shape ≡ shape.Int s)
+
 pub record NamesSiblings (t : StructShape) (e : Edge) : Type 0 where
   pub base : IsBaseOf t e.base
   pub terms : All (λ x. IsSibling t x.1) e.terms
+  pub integers : All (λ x. IsIntegerMember t x.1) e.terms
 
 abbrev pub BoundsNameSiblings : StructShape → Bounds → Type 0
 BoundsNameSiblings t bounds.Hidden = Unit {0}
@@ -159,6 +164,26 @@ IsSlotShape t (shape.Pointer elem b) = IsTextPointer t elem b
 IsSlotShape t (shape.Struct s) = ⊥
 IsSlotShape t shape.Address = Unit {0}
 
+-- a slot that an annotation can name: an integer or a pointer, and no hidden bound
+abbrev pub IsNamedSlot : Context → ℕ → Type 0
+IsNamedSlot ctx k = (x : Shape) × (slot_shape ctx k ≡ Some x) × IsNumber x
+
+abbrev pub IsBaseSlot : Context → Option ℕ → Type 0
+IsBaseSlot ctx None = Unit {0}
+IsBaseSlot ctx (Some k) = IsNamedSlot ctx k
+
+-- what is counted is an integer
+abbrev pub IsIntegerSlot : Context → ℕ → Type 0
+IsIntegerSlot ctx k = (s : Scalar) × (slot_shape ctx k ≡ Some (shape.Int s))
+
+pub record NamesSlots (ctx : Context) (e : Edge) : Type 0 where
+  pub base : IsBaseSlot ctx e.base
+  pub terms : All (λ x. IsNamedSlot ctx x.1) e.terms
+  pub integers : All (λ x. IsIntegerSlot ctx x.1) e.terms
+
 pub record HasSlots (ctx : Context) : Type 0 where
   pub shapes : (k : ℕ) (x : Shape) → slot_shape ctx k ≡ Some x → IsSlotShape ctx.table x
+  pub names : (k elem : ℕ) (lo hi : Edge) → slot_shape ctx k ≡ Some (shape.Pointer elem (bounds.Within lo hi)) → NamesSlots ctx lo × NamesSlots ctx hi
+  -- the hidden slots of an automatic pointer, which no other one has
   pub hidden : (k h : ℕ) → hidden_slot ctx.locals k ≡ Some h → (slot_shape ctx h ≡ Some shape.Address) × (slot_shape ctx (h + 1) ≡ Some shape.Address)
+  pub apart : (j h k g : ℕ) → hidden_slot ctx.locals j ≡ Some h → hidden_slot ctx.locals k ≡ Some g → j ≢ k → (h + 1 < g) ⊎ (g + 1 < h)

@@ -22,7 +22,7 @@ use Rattle.deputy_types.specs.StructLaws.{IsMultiple}
 use Rattle.deputy_rules.specs.SumValues.{parts_at, HasValue}
 use Rattle.driver_safety.specs.Passing.{IsTested}
 use Rattle.driver_safety.proofs.checks.Evaluations.{safe_weaker, safe_again, Pass, pass_none, pass_one, pass_then}
-use Rattle.driver_safety.proofs.expressions.PlaceRules.{le_pos}
+use Rattle.driver_safety.proofs.expressions.Steps.{le_pos}
 use Rattle.driver_safety.proofs.checks.Sounding.{Sound, then_sound, pure_sound, ask_sound, if_sound, weaker}
 
 -- what the five checks of a coercion say of a pointer that is not null

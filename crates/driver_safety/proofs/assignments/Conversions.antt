@@ -21,7 +21,7 @@ use Rattle.deputy_rules.specs.declared.derived.Whole.{Whole}
 use Rattle.deputy_rules.specs.Coercion.{side_by as converted_by, converted_side, cast_part}
 use Rattle.deputy_rules.specs.Sums.{side, side_by, constant_of, constant_part, atom_part, sum_of}
 use Rattle.deputy_rules.specs.SumValues.{part_at, PartHasValue, HasValue}
-use Rattle.driver_safety.specs.Goodness.{IsWhole}
+use Rattle.driver_safety.specs.Derivations.{IsWhole}
 use Rattle.deputy_rules.specs.NameValues.{IsOnce, AreOnce}
 use Rattle.checked_tree.proofs.NumberRanges.{of_value, converted_of}
 use Rattle.checked_tree.proofs.Peeking.{eval_peek}

@@ -8,7 +8,7 @@ use Rattle.deputy_rules.specs.Context.{Context}
 use Rattle.deputy_types.specs.Fitting.{Fits, null, in_text, in_bounds, IsBounded, IsOpenPlace, elem_bytes, shape_size}
 use Rattle.deputy_types.specs.StructLaws.{IsMultiple}
 use Rattle.deputy_types.specs.Table.{element_at}
-use Rattle.driver_safety.specs.Goodness.{IsTable}
+use Rattle.driver_safety.specs.TypeFacts.{HasTypes}
 
 module _ (blocks : List Block) (elems : List Shape) (structs : List StructShape) (e m : ℕ) (same : slice_get elems e ≡ slice_get elems m) where
   bytes : elem_bytes elems structs e ≡ elem_bytes elems structs m
@@ -30,6 +30,6 @@ module _ (blocks : List Block) (elems : List Shape) (structs : List StructShape)
   })
 
 -- so of two numbers whose types are equal
-pub refit_key : (ctx : Context) (blocks : List Block) (e m : ℕ) (key : Element) → IsTable ctx → element_at ctx.table e ≡ Some key → element_at ctx.table m ≡ Some key → (nullterm : Bool) (lo hi v : ℤ)
+pub refit_key : (ctx : Context) (blocks : List Block) (e m : ℕ) (key : Element) → HasTypes ctx.table → element_at ctx.table e ≡ Some key → element_at ctx.table m ≡ Some key → (nullterm : Bool) (lo hi v : ℤ)
     → Fits blocks ctx.table.elems ctx.table.structs e nullterm lo hi v → Fits blocks ctx.table.elems ctx.table.structs m nullterm lo hi v
-refit_key ctx blocks e m key table h k nullterm lo hi v fits = refit blocks ctx.table.elems ctx.table.structs e m (table.shapes e key h ∙ sym (table.shapes m key k)) nullterm lo hi v fits
+refit_key ctx blocks e m key types h k nullterm lo hi v fits = refit blocks ctx.table.elems ctx.table.structs e m ((types.elements e key h).0 ∙ sym (types.elements m key k).0) nullterm lo hi v fits

@@ -23,7 +23,8 @@ use Rattle.deputy_types.specs.Fitting.{Fits, FitsBounds}
 use Rattle.deputy_types.specs.Table.{bounds_name, edge_names, is_base, element_at}
 use Rattle.deputy_rules.specs.Values.{size_of, name_sum, low_sum, high_sum, edge_sum}
 use Rattle.deputy_rules.specs.SumValues.{HasValue}
-use Rattle.driver_safety.specs.Goodness.{IsTable}
+use Rattle.driver_safety.specs.TypeFacts.{HasTypes}
+use Rattle.driver_safety.proofs.assignments.ElementSizes.{element_size}
 use Rattle.driver_safety.proofs.assignments.Coercions.{IsNarrower, Excused, Narrows, coerce_sound, narrow}
 use Rattle.deputy_rules.specs.NameValues.{HaveNames}
 use Rattle.deputy_rules.proofs.EdgesHave.{has_edge}
@@ -72,7 +73,7 @@ module _ (k : ℕ) (before after : ℕ → ℤ) where
       ap (λ (z : ℤ). edge_from after e.terms (z +ℤ e.bytes)) (same_base v e.base a.0 both.0) ∙ same_terms e.terms (edge_base before v e.base +ℤ e.bytes) a.1 both.1
 
 -- ---- one sibling
-module _ (f : CheckedFn) (ctx : Context) (blocks : List Block) (st : State) (table : IsTable ctx) (old new : Naming) (k : ℕ) where
+module _ (f : CheckedFn) (ctx : Context) (blocks : List Block) (st : State) (types : HasTypes ctx.table) (old new : Naming) (k : ℕ) where
   -- a pointer fits its annotation, with these numbers for the names
   abbrev pub Within : (ℕ → ℤ) → ℕ → Edge → Edge → ℤ → Type 0
   Within sibling elem lo hi v = Fits blocks ctx.table.elems ctx.table.structs elem false (edge_value sibling v lo) (edge_value sibling v hi) v
@@ -99,7 +100,7 @@ module _ (f : CheckedFn) (ctx : Context) (blocks : List Block) (st : State) (tab
           safe_weaker (tests [] f st ids) _ _
           (n (before i) _ _ _ _ h (has_edge st ctx old before at (before i) lo r.low h) (has_edge st ctx old before at (before i) hi r.high h)
               (has_edge st ctx new after at (before i) lo r.lower h) (has_edge st ctx new after at (before i) hi r.higher h))
-          (λ u e x fits. narrow blocks ctx.table.elems ctx.table.structs elem (size_of ctx key) _ _ _ _ (before i) (table.sizes elem key is) fits x))
+          (λ u e x fits. narrow blocks ctx.table.elems ctx.table.structs elem (size_of ctx key) _ _ _ _ (before i) (element_size ctx.table types elem key is) fits x))
       (coerce_sound f ctx st kind.Change kind.Change at (edge_sum ctx old at lo) (edge_sum ctx old at hi) (edge_sum ctx new at lo) (edge_sum ctx new at hi) (size_of ctx key))
 
   unnamed_keeps : (i elem : ℕ) (lo hi : Edge) → bounds_name k (bounds.Within lo hi) ≡ false → ChangeKeeps i elem lo hi []

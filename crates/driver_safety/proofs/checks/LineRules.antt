@@ -10,7 +10,8 @@ use Rattle.deputy_rules.specs.Context.{Context}
 use Rattle.deputy_rules.specs.Deriving.{Deriving}
 use Rattle.deputy_rules.specs.Numbering.{Numbered, numbered}
 use Rattle.deputy_rules.specs.Statements.{with_numbers, numbered_at, statement_context, at_line}
-use Rattle.driver_safety.proofs.checks.Sounding.{IsFront, front_same, front_front, Sound}
+use Rattle.driver_safety.specs.Passing.{IsFront}
+use Rattle.driver_safety.proofs.checks.Sounding.{front_same, front_front, Sound}
 use Rattle.driver_safety.proofs.checks.TestedChecks.{AreNumbered, numbered_tested}
 
 pair_same : {A B : Type 0} (a c : A) (b d : B) → ◌≡◌ {A = Result (A × B) Fault} (Ok (a, b)) (Ok (c, d)) → (a ≡ c) × (b ≡ d)

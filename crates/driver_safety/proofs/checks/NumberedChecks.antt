@@ -28,7 +28,8 @@ use Rattle.deputy_types.specs.Options.{and_then}
 use Rattle.deputy_types.proofs.Inversions.{some_then, some_map}
 use Rattle.deputy_rules.specs.SumValues.{got_or_zero, part_at, parts_at, PartHasValue, HaveValues}
 use Rattle.deputy_rules.proofs.BareValues.{peek_bare}
-use Rattle.driver_safety.proofs.checks.Sounding.{IsFront, front_same, front_front, get_front, get_last}
+use Rattle.driver_safety.specs.Passing.{IsFront}
+use Rattle.driver_safety.proofs.checks.Sounding.{front_same, front_front, get_front, get_last}
 
 some_same : {A : Type 0} (a b : A) → ◌≡◌ {A = Option A} (Some a) (Some b) → a ≡ b
 some_same a b h = cc

@@ -8,11 +8,7 @@ use Rattle.deputy_rules.specs.declared.asked.AskedCond.{AskedCond}
 use Rattle.deputy_rules.specs.Context.{Context}
 use Rattle.deputy_rules.specs.Deriving.{Deriving, bind, pure, none, lift, ask}
 use Rattle.deputy_types.proofs.Inversions.{some_then}
-use Rattle.driver_safety.specs.Passing.{IsTested, AreTested}
-
--- the one list is the front of the other
-abbrev pub IsFront : {A : Type 0} → List A → List A → Type 0
-IsFront {A = A} s t = (more : List A) × (t ≡ s ++ more)
+use Rattle.driver_safety.specs.Passing.{IsFront, IsTested, AreTested}
 
 append_nil : {A : Type 0} (s : List A) → s ≡ s ++ []
 append_nil [] = refl

@@ -25,11 +25,11 @@ use Rattle.deputy_rules.specs.Numbering.{Numbered, difference, whole, single, at
 use Rattle.deputy_types.specs.Options.{and_then}
 use Rattle.deputy_types.proofs.Inversions.{some_then, some_map}
 use Rattle.deputy_rules.specs.SumValues.{part_at, parts_at, PartHasValue, HaveValues}
-use Rattle.driver_safety.specs.Passing.{sum_at, place_of, IsInside, clear_at, new_at, HasSides, Passes, IsTested, AreTested}
+use Rattle.driver_safety.specs.Passing.{IsFront, sum_at, place_of, IsInside, clear_at, new_at, HasSides, Passes, IsTested, AreTested}
 use Rattle.driver_safety.proofs.checks.Evaluations.{safe_same}
 use Rattle.driver_safety.proofs.checks.Reached.{reached_is}
 use Rattle.driver_safety.proofs.checks.NumberedChecks.{difference_value, whole_value, single_value}
-use Rattle.driver_safety.proofs.checks.Sounding.{IsFront, front_same, front_front, get_front, get_last}
+use Rattle.driver_safety.proofs.checks.Sounding.{front_same, front_front, get_front, get_last}
 
 some_same : {A : Type 0} (a b : A) → ◌≡◌ {A = Option A} (Some a) (Some b) → a ≡ b
 some_same a b h = cc

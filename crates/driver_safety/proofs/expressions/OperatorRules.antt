@@ -1,5 +1,5 @@
 -- Numbers, and the operators on two integers.
-use Rattle.std.proofs.Common.{◌≡◌, ◌≢◌, ◌⊎◌, inl, inr, ℕ, zero, suc, ◌+◌, ◌-◌, ◌%◌, ◌^◌, ◌<◌, ◌≤◌, nat_lt, IsTrue, Bool, true, false, List, [], ◌∷◌, ℤ, pos, negsuc, ◌+ℤ◌, ◌-ℤ◌, ◌*ℤ◌, Option, Some, None, Ok, Err, if◌then◌else◌, refl, sym, ap, ◌∙◌, subst, arith}
+use Rattle.std.proofs.Common.{◌≡◌, ◌≢◌, ◌⊎◌, inl, inr, ℕ, zero, suc, ◌+◌, ◌-◌, ◌%◌, ◌^◌, ◌<◌, ◌≤◌, nat_lt, IsTrue, Bool, true, false, List, [], ◌∷◌, ℤ, pos, negsuc, ◌+ℤ◌, ◌-ℤ◌, ◌*ℤ◌, neg_ℤ, Option, Some, None, Ok, Err, if◌then◌else◌, refl, sym, ap, ◌∙◌, subst, arith}
 use Rattle.std.specs.Ordering.{int_eq}
 use Rattle.std.proofs.Math.IntN.{*ℤ_comm}
 use Rattle.std.proofs.lemmas.Bool.{lt-ltb}
@@ -194,13 +194,11 @@ unfolding is_of
 truth_of s b (inl e) = subst (λ (s : Scalar). IsTrue (is_of s (truth b))) (sym e) (word b)
   where
     word : (b : Bool) → IsTrue (is_of U32 (truth b))
-    unfolding is_of
     word true = refl
     word false = refl
 truth_of s b (inr e) = subst (λ (s : Scalar). IsTrue (is_of s (truth b))) (sym e) (int b)
   where
     int : (b : Bool) → IsTrue (is_of I32 (truth b))
-    unfolding is_of
     int true = refl
     int false = refl
 
@@ -307,19 +305,17 @@ module _ (f : CheckedFn) (ctx : Context) (blocks : List Block) (st : State) wher
   number_safe n h = constant_safe (pos n.value) (suffix_scalar n.suffix n.value) _ refl (suffix_of n.suffix n.value h) (suffix_integer n.suffix n.value)
 
   pub character_safe : (c : ℕ) → c < 256 → IsDerived f ctx blocks st (character c)
-  unfolding character
+  unfolding character is_of
   character_safe c h = constant_safe (pos c) I32 _ refl (small c h) tt
     where
       small : (c : ℕ) → c < 256 → IsTrue (is_of I32 (pos c))
-      unfolding is_of
       small c h = grind (arith, ints, h)
 
   pub size_safe : (n : ℕ) → n ≤ 65536 → IsDerived f ctx blocks st (size_constant n)
-  unfolding size_constant
+  unfolding size_constant is_of
   size_safe n h = constant_safe (pos n) U32 _ refl (small n h) tt
     where
       small : (n : ℕ) → n ≤ 65536 → IsTrue (is_of U32 (pos n))
-      unfolding is_of
       small n h = lt-ltb n (2 ^ 32) (omega (arith, h))
 
   -- ---- one integer

@@ -118,8 +118,9 @@ module _ (f : CheckedFn) (ctx : Context) (blocks : List Block) (st : State) (goo
       let size : ℕ = size_of ctx key in
       let block : IsBlock ctx.table blocks st.memory l.block = good.memory.each l.block l.granted in
       let b = alone key a l in
-      let from = b.from_in in
-      let to = b.to_in in
+      let w = open_within ctx.table types blocks st.memory l.block block (key_shape ctx.table key) a l.place in
+      let from = w.from in
+      let to = w.to in
       let end = block.to in
       let first = block.from in
       record {

@@ -4,4 +4,5 @@ pub mod TypeFacts
 pub mod Goodness
 pub mod Derivations
 pub mod WrittenNumbers
+pub mod LightHandling
 pub mod ExpressionLaw

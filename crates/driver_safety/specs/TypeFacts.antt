@@ -184,6 +184,8 @@ pub record NamesSlots (ctx : Context) (e : Edge) : Type 0 where
 pub record HasSlots (ctx : Context) : Type 0 where
   pub shapes : (k : ℕ) (x : Shape) → slot_shape ctx k ≡ Some x → IsSlotShape ctx.table x
   pub names : (k elem : ℕ) (lo hi : Edge) → slot_shape ctx k ≡ Some (shape.Pointer elem (bounds.Within lo hi)) → NamesSlots ctx lo × NamesSlots ctx hi
+  -- a pointer's bounds begin at itself or at another one
+  pub own : (k elem : ℕ) (lo hi : Edge) → slot_shape ctx k ≡ Some (shape.Pointer elem (bounds.Within lo hi)) → (lo.base ≢ Some k) × (hi.base ≢ Some k)
   -- the hidden slots of an automatic pointer, which no other one has
   pub hidden : (k h : ℕ) → hidden_slot ctx.locals k ≡ Some h → (slot_shape ctx h ≡ Some shape.Address) × (slot_shape ctx (h + 1) ≡ Some shape.Address)
   pub apart : (j h k g : ℕ) → hidden_slot ctx.locals j ≡ Some h → hidden_slot ctx.locals k ≡ Some g → j ≢ k → (h + 1 < g) ⊎ (g + 1 < h)

@@ -1,4 +1,9 @@
+pub mod ElementSizes
 pub mod Coercions
+pub mod Handing
+pub mod LightBounds
+pub mod SlotChanges
+pub mod AutomaticAssign
 pub mod SiblingRules
 pub mod HandedRules
 pub mod SlotAssign

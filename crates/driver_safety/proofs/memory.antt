@@ -3,3 +3,5 @@ pub mod Apart
 pub mod Stores
 pub mod StoredValues
 pub mod Growing
+pub mod Outside
+pub mod Writes

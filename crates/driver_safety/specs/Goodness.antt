@@ -1,6 +1,6 @@
 -- A good state of a function's frame and of the memory: each local is in the range of its type, and each pointer, in a slot and in memory, fits by the names of its own
 -- function or struct. The frame and the memory do not speak of each other; both read the granted blocks alone.
-use Rattle.std.specs.Prelude.{◌≡◌, IsTrue, ℕ, ◌+◌, ◌-◌, ◌*◌, ◌<◌, ◌≤◌, Bool, true, false, List, All, ℤ, pos, Option, Some, None, length, slice_get, slice_index_or}
+use Rattle.std.specs.Prelude.{◌≡◌, ◌⊎◌, IsTrue, ℕ, ◌+◌, ◌-◌, ◌*◌, ◌<◌, ◌≤◌, Bool, true, false, List, All, ℤ, pos, Option, Some, None, length, slice_get, slice_index_or}
 use Rattle.std.specs.List.{Contains}
 use Rattle.sd_base.specs.Blocks.{Block, block_end}
 use Rattle.byte_memory.specs.Tested.{Memory, is_inside}
@@ -55,7 +55,7 @@ pub record IsBlock (t : Table) (blocks : List Block) (m : Memory) (b : Block) : 
   pub there : block_end b ≤ length m.bytes
   -- each element fits its type; text is bytes, of which the last is 0
   pub fit : (i : ℕ) → b.layout.nullterm ≡ false → i < b.count → BytesFit blocks t.elems t.structs m.bytes (b.base + i * b.layout.size) shape
-  pub text : b.layout.nullterm ≡ true → b.layout.size ≡ 1
+  pub text : b.layout.nullterm ≡ true → (b.layout.size ≡ 1) × (0 < b.count)
   pub ends : b.layout.nullterm ≡ true → slice_index_or m.bytes (block_end b - 1) 0 ≡ 0
 
 -- a block of the load image that is granted
@@ -67,9 +67,19 @@ pub record IsGranted (blocks : List Block) (b : ImageBlock) : Type 0 where
   pub elem : block.layout.elem ≡ b.elem
   pub nullterm : block.layout.nullterm ≡ b.nullterm
 
+-- one block, whatever it is used for; or two that share no byte
+pub record IsSameBlock (b c : Block) : Type 0 where
+  pub base : b.base ≡ c.base
+  pub layout : b.layout ≡ c.layout
+  pub count : b.count ≡ c.count
+
+abbrev pub AreApart : Block → Block → Type 0
+AreApart b c = IsSameBlock b c ⊎ (block_end b ≤ c.base) ⊎ (block_end c ≤ b.base)
+
 pub record IsMemory (t : Table) (blocks : List Block) (m : Memory) : Type 0 where
   pub bytes : All (λ b. b < 256) m.bytes
   pub each : (b : Block) → Contains blocks b → IsBlock t blocks m b
+  pub apart : (b c : Block) → Contains blocks b → Contains blocks c → AreApart b c
   pub image : (k : ℕ) (b : ImageBlock) → slice_get t.image k ≡ Some b → IsGranted blocks b
 
 pub record IsGood (ctx : Context) (blocks : List Block) (st : State) : Type 0 where

@@ -1,5 +1,6 @@
 pub mod Passing
 pub mod Reaching
+pub mod StructPlaces
 pub mod TypeFacts
 pub mod Goodness
 pub mod Derivations

@@ -17,11 +17,12 @@ use Rattle.deputy_types.specs.declared.element.Element.TheVariants as element
 use Rattle.checked_tree.specs.declared.units.ImageBlock.{ImageBlock}
 use Rattle.deputy_types.specs.declared.table.GlobalPlace.{GlobalPlace}
 use Rattle.deputy_types.specs.Extents.{key_extent}
-use Rattle.deputy_types.specs.Fitting.{AreNested, is_open, shape_size}
-use Rattle.deputy_types.specs.Table.{Table, element_at, field, arm, global, literal, member, member_key, is_array, size, union_shape}
+use Rattle.deputy_types.specs.Fitting.{is_open, shape_size}
+use Rattle.deputy_types.specs.Table.{Table, element_at, field, arm, global, literal, member, member_key, is_array, size, has_names, union_shape}
 use Rattle.deputy_types.specs.UnitLayout.{elem_shape}
 use Rattle.deputy_rules.specs.Context.{Context, slot_shape}
 use Rattle.deputy_rules.specs.NameValues.{IsNumber}
+use Rattle.driver_safety.specs.StructPlaces.{AreTidy}
 
 -- an integer type
 abbrev pub IsInteger : Scalar → Type 0
@@ -117,6 +118,8 @@ pub record IsMemberOf (table : Table) (s : ℕ) (t : StructShape) (k : ℕ) (m :
   pub array : is_array table s k ≡ true → is_open t k m ≡ true
   pub structure : IsOpenStruct t k m m.shape
   pub names : ShapeNamesSiblings t m.shape
+  -- an arm of a union that is there, whose annotation names nothing
+  pub arm : (u : ℕ) (z : ℤ) → m.arm ≡ Some (u, z) → ((x : UnionShape) × (slice_get t.unions u ≡ Some x)) × (has_names m.shape ≡ false)
   -- the type of the member, where its annotation is constant
   pub typed : (key : Element) → member_key table s k ≡ Some key → (m.shape ≡ key_shape table key) × IsType table key
 
@@ -135,6 +138,9 @@ pub record IsStructOf (table : Table) (s : ℕ) (t : StructShape) : Type 0 where
   pub fields : (name : List ℕ) (k : ℕ) (m : Member) → field table s name ≡ Some k → slice_get t.members k ≡ Some m → m.arm ≡ None
   pub arms : (u : ℕ) (name : List ℕ) (k : ℕ) (m : Member) → arm table s u name ≡ Some k → slice_get t.members k ≡ Some m → (z : ℤ) × (m.arm ≡ Some (u, z)) × (m.count ≡ 1)
   pub tags : (u : ℕ) (x : UnionShape) → slice_get t.unions u ≡ Some x → IsTag t x.tag
+  -- each arm of a union has a constant of its own
+  pub distinct : (j k : ℕ) (a b : Member) → slice_get t.members j ≡ Some a → slice_get t.members k ≡ Some b → j ≢ k
+      → (u : ℕ) (y z : ℤ) → a.arm ≡ Some (u, y) → b.arm ≡ Some (u, z) → y ≢ z
 
 -- ---- the load image
 pub record IsGlobal (b : ImageBlock) : Type 0 where
@@ -147,7 +153,7 @@ pub record IsString (b : ImageBlock) : Type 0 where
 
 -- ---- a table
 pub record HasTypes (t : Table) : Type 0 where
-  pub nested : AreNested t.structs
+  pub tidy : AreTidy t.structs
   pub structs : (s : ℕ) (x : StructShape) → slice_get t.structs s ≡ Some x → IsStructOf t s x
   -- each element has the shape of its type, and a type has the bytes of its shape
   pub elements : (n : ℕ) (key : Element) → element_at t n ≡ Some key → (slice_get t.elems n ≡ Some (key_shape t key)) × IsType t key

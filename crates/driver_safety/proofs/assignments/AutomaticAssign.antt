@@ -6,7 +6,7 @@ use Rattle.std.proofs.lemmas.Bool.Decides.{Decides-eqb, Decides-int_eq}
 use Rattle.std.proofs.lemmas.List.{get_or-set_same, get_or-set_other, length-set}
 use Rattle.sd_base.specs.Blocks.{Block, block_end}
 use Rattle.c_tree.specs.Slots.{hidden_slot}
-use Rattle.checked_tree.specs.declared.kernel.Fat.{Fat}
+use Rattle.sd_base.specs.declared.actors.Fat.{Fat}
 use Rattle.checked_tree.specs.declared.shapes.Bounds.{Bounds}
 use Rattle.checked_tree.specs.declared.shapes.Bounds.TheVariants as bounds
 use Rattle.checked_tree.specs.declared.shapes.Edge.{Edge}

@@ -8,7 +8,7 @@ use Rattle.std.proofs.lemmas.List.{get_or-set_same, get_or-set_other, length-set
 use Rattle.std.proofs.lemmas.List.Elements.{All-head, All-tail}
 use Rattle.sd_base.specs.Blocks.{Block}
 use Rattle.c_tree.specs.Slots.{hidden_slot}
-use Rattle.checked_tree.specs.declared.kernel.Fat.{Fat}
+use Rattle.sd_base.specs.declared.actors.Fat.{Fat}
 use Rattle.checked_tree.specs.declared.shapes.Bounds.{Bounds}
 use Rattle.checked_tree.specs.declared.shapes.Bounds.TheVariants as bounds
 use Rattle.checked_tree.specs.declared.shapes.Edge.{Edge}

@@ -373,7 +373,7 @@ module _ (f : CheckedFn) (ctx : Context) (blocks : List Block) (st : State) wher
         let size : shape_size ctx.table.structs (shape.Struct s) ≡ t.size = ap (λ (o : Option StructShape). unwrap_or (option_map (λ (t : StructShape). t.size) o) 0) is in
         let within : w.offset + w.count * shape_size ctx.table.structs w.shape ≤ t.size =
         subst (λ (x : Member). x.offset + x.count * shape_size ctx.table.structs x.shape ≤ t.size) (get_or_from_slice_get t.members m w w mem)
-          (types.nested s t is m w (slice_get_within t.members m w mem)) in
+          (types.tidy.nested s t is m w (slice_get_within t.members m w mem)) in
         let to = lies.to in
         omega (arith, to, size, within)
 

@@ -190,7 +190,7 @@ module _ (f : CheckedFn) (ctx : Context) (blocks : List Block) (st : State) (goo
   string_is b is g =
       let block : IsBlock ctx.table blocks st.memory g.block = good.memory.each g.block g.granted in
       let text : g.block.layout.nullterm ≡ true = g.nullterm ∙ is.text in
-      let size = block.text text in
+      let size = (block.text text).0 in
       let base = g.base in
       let count = g.count in
       let some = is.some in

@@ -47,7 +47,7 @@ module _ (t : Table) (types : HasTypes t) (blocks : List Block) (m : Memory) (b 
   pub part_within : (x : Shape) (place a : ℕ) (y : Shape) → slice_get t.elems b.layout.elem ≡ Some x → place < b.count
       → Part t.structs is_any (b.base + place * b.layout.size) x a y → IsWithin b a (shape_size t.structs y)
   part_within x place a y known below p =
-      let lies = lies_in t.structs (b.base + place * b.layout.size) x a y types.nested p in
+      let lies = lies_in t.structs (b.base + place * b.layout.size) x a y types.tidy.nested p in
       let bytes : elem_bytes t.elems t.structs b.layout.elem ≡ shape_size t.structs x =
       ap (λ (o : Option Shape). unwrap_or (option_map (shape_size t.structs) o) 0) known in
       let size = is.size in

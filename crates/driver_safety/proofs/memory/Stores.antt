@@ -14,7 +14,8 @@ use Rattle.checked_tree.specs.declared.shapes.StructShape.{StructShape}
 use Rattle.checked_tree.specs.Numbers.{converted, scalar_size}
 use Rattle.layout_laws.proofs.ZeroFits.{LiesIn}
 use Rattle.deputy_types.specs.Fitting.{shape_size, Part, is_any, FitsBounds, HoldsFitting, BytesFit, place_value, member_value, is_used}
-use Rattle.driver_safety.proofs.memory.Apart.{IsLeaf, AreTidy, Below, below, IsElement, address_of, bytes_of, Related, same, first, second, union, related, of_siblings, within, holder}
+use Rattle.driver_safety.specs.StructPlaces.{IsLeaf, AreTidy}
+use Rattle.driver_safety.proofs.memory.Apart.{Below, below, IsElement, address_of, bytes_of, Related, same, first, second, union, related, of_siblings, within, holder}
 
 fun_ext : {A B : Type 0} (f g : A → B) → ((a : A) → f a ≡ g a) → f ≡ g
 fun_ext f g h = λ i a. h a i

@@ -5,3 +5,4 @@ pub mod StoredValues
 pub mod Growing
 pub mod Outside
 pub mod Writes
+pub mod OpenWrites

@@ -274,7 +274,7 @@ module _ (f : CheckedFn) (ctx : Context) (blocks : List Block) (st : State) (goo
             let there = pointer_next slot elem hidden is hides fat known.word known.low known.high known.fits in
             safe_bind (tests [] f st ids) _ _ _
             (kept (all_renamed f ctx blocks st good types slots slot next (pos fat.value) h.at pointer_once has there.same there.stays) (pass_none f st (Unit {0}) tt))
-            (λ u others'. safe_same _ _ _ (ap (λ (q : Fat). goes_on (with_pointer st slot hidden q)) same)
+            (λ u others'. safe_same (goes_on (with_pointer st slot hidden fat)) (goes_on (with_pointer st slot hidden p)) (λ a. IsGood ctx blocks a.state × (a.turn ≡ On)) (ap (λ (q : Fat). goes_on (with_pointer st slot hidden q)) same)
                 (frame_next f ctx blocks st good types slots slot next (pos fat.value) h.at pointer_once has there.same there.stays (shape.Pointer elem bounds.Hidden) is there others'.1, refl)))))))
 
   -- ---- each assignment to a local

@@ -249,7 +249,7 @@ module _ (f : CheckedFn) (ctx : Context) (blocks : List Block) (st : State) (goo
   text_bounds elem lo hi v (in_bounds n t) = absurd cc
 
   -- of a pointer to text
-  assign_text_sound : (slot elem : ℕ) (key : Element) (h : Handed) → slot_shape ctx slot ≡ Some (shape.Pointer elem bounds.Nullterm)
+  pub assign_text_sound : (slot elem : ℕ) (key : Element) (h : Handed) → slot_shape ctx slot ≡ Some (shape.Pointer elem bounds.Nullterm)
       → Sound f st ctx.first (assign_annotated ctx slot key bounds.Nullterm h) (λ x. Hands f ctx blocks st good types slots h elem true → Leaves x)
   unfolding coerce_to
   assign_text_sound slot elem key h is = weaker f st ctx.first _ _ _ (λ x q d. q tt d) (annotated_sound slot elem bounds.Nullterm is h key true (Unit {0}) (pure_sound f st ctx.first [] _ (λ k v seen here.
@@ -260,7 +260,7 @@ module _ (f : CheckedFn) (ctx : Context) (blocks : List Block) (st : State) (goo
       pass_none f st _ (subst (λ (y : ℤ). Fits blocks ctx.table.elems ctx.table.structs elem true (pos 0) (pos 0) y) (same ∙ sym s) (text_bounds elem here.lo here.hi v here.fits)))))
 
   -- of a pointer with bounds, which does not name itself
-  assign_bounded_sound : (slot elem : ℕ) (lo hi : Edge) (key : Element) (h : Handed) → slot_shape ctx slot ≡ Some (shape.Pointer elem (bounds.Within lo hi))
+  pub assign_bounded_sound : (slot elem : ℕ) (lo hi : Edge) (key : Element) (h : Handed) → slot_shape ctx slot ≡ Some (shape.Pointer elem (bounds.Within lo hi))
       → Sound f st ctx.first (assign_annotated ctx slot key (bounds.Within lo hi) h) (λ x. element_at ctx.table elem ≡ Some key → Hands f ctx blocks st good types slots h elem false → Leaves x)
   assign_bounded_sound slot elem lo hi key h is =
       annotated_sound slot elem (bounds.Within lo hi) is h key false (element_at ctx.table elem ≡ Some key) (weaker f st ctx.first _ _ _ (λ ids q known v seen here.

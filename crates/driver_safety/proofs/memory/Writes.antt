@@ -44,7 +44,7 @@ module _ (t : Table) (types : HasTypes t) (blocks : List Block) (m : Memory) (go
   abbrev pub next : Memory
   next = record m { bytes = overwritten m.bytes to new }
 
-  own_block : IsBlock t blocks m w
+  abbrev pub own_block : IsBlock t blocks m w
   own_block = good.each w granted
 
   within : to + length new ≤ length m.bytes

@@ -4,6 +4,7 @@ pub mod Handing
 pub mod LightBounds
 pub mod SlotChanges
 pub mod AutomaticAssign
+pub mod ElementStores
 pub mod SiblingRules
 pub mod HandedRules
 pub mod SlotAssign

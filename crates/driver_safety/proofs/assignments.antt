@@ -11,3 +11,4 @@ pub mod SlotAssign
 pub mod Conversions
 pub mod Refitting
 pub mod KeptRules
+pub mod LocalAssignments

@@ -1,7 +1,21 @@
-//! Laws.
-ghost use Rattle.std.specs.Prelude.{◌≡◌, ℕ};
+//! The laws.
+ghost use Rattle.driver_safety.specs.ExpressionLaw.{EachPlaceIsSound, EachValueIsSound};
+ghost use Rattle.driver_safety.specs.LocalAssignmentLaw.{EachLocalAssignmentIsSound};
 
-/// A first one.
-pub fn expressions_are_sound()
-    ensures { (n : ℕ) → n ≡ n }
+/// An expression that the rules derive is, in a good state, what they take it for, or one of its checks fails: it is never wild. A place lies in a granted block, where its
+/// type is declared; an array lies in one with all its elements; an arm of a union is one that the tag selects.
+pub fn every_place_is_sound()
+    ensures { EachPlaceIsSound }
+{}
+
+/// And so is its value: an integer is in the range of its type, a pointer is null, points into text, or lies between its bounds in one granted block, whole elements past
+/// the low one; each whole element between the bounds is a place of its type of which no annotation, no tag and no union speaks.
+pub fn every_value_is_sound()
+    ensures { EachValueIsSound }
+{}
+
+/// An assignment to a local or parameter, in a good state, fails a check or leaves a good state: what is assigned fits the local's type, and each pointer whose annotation
+/// names the local fits with its new value.
+pub fn an_assignment_to_a_local_is_sound()
+    ensures { EachLocalAssignmentIsSound }
 {}

@@ -1,6 +1,9 @@
-//! Laws on what a driver that was accepted can do, over the definitions alone: there is no code, and each law is a public function whose contract is the law.
+//! What an accepted driver cannot do, as laws over the definitions alone: where a state is good, what the rules derive evaluates to what they take it for, or fails a
+//! check, and leaves a good state. There is no code: each law is a public function without a body, whose contract is the law.
 #![tactic(auto)]
 
 mod laws;
 
-pub use laws::expressions_are_sound;
+pub use laws::{
+    an_assignment_to_a_local_is_sound, every_place_is_sound, every_value_is_sound,
+};

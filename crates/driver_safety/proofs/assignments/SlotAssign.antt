@@ -67,7 +67,7 @@ use Rattle.driver_safety.proofs.expressions.ReadRules.{no_void}
 some_same : {A : Type 0} (a b : A) → ◌≡◌ {A = Option A} (Some a) (Some b) → a ≡ b
 some_same a b h = cc
 
-taken_is : (s : Scalar) (z : ℤ) → IsInteger s → taken s z ≡ Ok (converted s z)
+pub taken_is : (s : Scalar) (z : ℤ) → IsInteger s → taken s z ≡ Ok (converted s z)
 unfolding taken
 taken_is Void z i = absurd i
 taken_is (Pointer size) z i = absurd i
@@ -79,7 +79,7 @@ taken_is I32 z i = refl
 taken_is U32 z i = refl
 
 -- a word is taken as a pointer as it is
-word_taken : (v : ℤ) → IsTrue (is_word v) → taken (Pointer 0) v ≡ Ok v
+pub word_taken : (v : ℤ) → IsTrue (is_word v) → taken (Pointer 0) v ≡ Ok v
 unfolding taken
 word_taken (pos n) h = ap (λ (b : Bool). (if b then Ok n else Err Wild) >>= λ a. Ok (pos a)) h
 word_taken (negsuc n) h = absurd cc

@@ -33,7 +33,7 @@ pub get_last : {A : Type 0} (s : List A) (x : A) → slice_get (s ++ x ∷ []) (
 get_last [] x = refl
 get_last (y ∷ ys) x = get_last ys x
 
-tested_front : (f : CheckedFn) (st : State) (first : ℕ) (s t : List Asked) → IsFront s t → AreTested f st first t → AreTested f st first s
+pub tested_front : (f : CheckedFn) (st : State) (first : ℕ) (s t : List Asked) → IsFront s t → AreTested f st first t → AreTested f st first s
 tested_front f st first s t front all = record {
   each = λ k q h. all.each k q (subst (λ l. slice_get l k ≡ Some q) (sym front.1) (get_front s front.0 k q h));
 }

@@ -2,6 +2,7 @@ pub mod ElementSizes
 pub mod Coercions
 pub mod Handing
 pub mod LightBounds
+pub mod StructNames
 pub mod SlotChanges
 pub mod AutomaticAssign
 pub mod ElementStores

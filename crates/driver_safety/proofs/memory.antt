@@ -6,3 +6,4 @@ pub mod Growing
 pub mod Outside
 pub mod Writes
 pub mod OpenWrites
+pub mod MemberWrites

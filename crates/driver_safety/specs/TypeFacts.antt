@@ -102,6 +102,18 @@ ShapeNamesSiblings t (shape.Pointer elem b) = BoundsNameSiblings t b
 ShapeNamesSiblings t (shape.Struct s) = Unit {0}
 ShapeNamesSiblings t shape.Address = Unit {0}
 
+-- a pointer's bounds begin at itself or at another one
+abbrev pub BoundsNameOthers : ℕ → Bounds → Type 0
+BoundsNameOthers k bounds.Hidden = Unit {0}
+BoundsNameOthers k bounds.Nullterm = Unit {0}
+BoundsNameOthers k (bounds.Within lo hi) = (lo.base ≢ Some k) × (hi.base ≢ Some k)
+
+abbrev pub ShapeNamesOthers : ℕ → Shape → Type 0
+ShapeNamesOthers k (shape.Int s) = Unit {0}
+ShapeNamesOthers k (shape.Pointer elem b) = BoundsNameOthers k b
+ShapeNamesOthers k (shape.Struct s) = Unit {0}
+ShapeNamesOthers k shape.Address = Unit {0}
+
 -- ---- a struct
 -- a member that is a struct is open: no annotation, no tag and no union speaks of it
 abbrev pub IsOpenStruct : StructShape → ℕ → Member → Shape → Type 0
@@ -109,6 +121,15 @@ IsOpenStruct t k m (shape.Struct s) = is_open t k m ≡ true
 IsOpenStruct t k m (shape.Int s) = Unit {0}
 IsOpenStruct t k m (shape.Pointer elem b) = Unit {0}
 IsOpenStruct t k m shape.Address = Unit {0}
+
+-- an arm in the union with this number: it is alone, begins with the union, ends within it, and names nothing
+pub record IsArmIn (table : Table) (t : StructShape) (u : ℕ) (m : Member) : Type 0 where
+  pub union : UnionShape
+  pub union_is : slice_get t.unions u ≡ Some union
+  pub one : m.count ≡ 1
+  pub from : m.offset ≡ union.offset
+  pub to : shape_size table.structs m.shape ≤ union.size
+  pub nameless : has_names m.shape ≡ false
 
 pub record IsMemberOf (table : Table) (s : ℕ) (t : StructShape) (k : ℕ) (m : Member) : Type 0 where
   pub some : 0 < m.count
@@ -118,8 +139,9 @@ pub record IsMemberOf (table : Table) (s : ℕ) (t : StructShape) (k : ℕ) (m :
   pub array : is_array table s k ≡ true → is_open t k m ≡ true
   pub structure : IsOpenStruct t k m m.shape
   pub names : ShapeNamesSiblings t m.shape
-  -- an arm of a union that is there, whose annotation names nothing
-  pub arm : (u : ℕ) (z : ℤ) → m.arm ≡ Some (u, z) → ((x : UnionShape) × (slice_get t.unions u ≡ Some x)) × (has_names m.shape ≡ false)
+  pub own : ShapeNamesOthers k m.shape
+  -- an arm of a union that is there, within its bytes, whose annotation names nothing
+  pub arm : (u : ℕ) (z : ℤ) → m.arm ≡ Some (u, z) → IsArmIn table t u m
   -- the type of the member, where its annotation is constant
   pub typed : (key : Element) → member_key table s k ≡ Some key → (m.shape ≡ key_shape table key) × IsType table key
 

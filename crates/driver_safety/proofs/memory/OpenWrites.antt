@@ -58,6 +58,7 @@ pub record IsFree (t : StructShape) (k : ℕ) (m : Member) : Type 0 where
   pub arm : m.arm ≡ None
   pub tags : list_any (λ (u : UnionShape). u.tag == k) t.unions ≡ false
   pub names : list_any (λ (x : Member). shape_names k x.shape) t.members ≡ false
+  pub nameless : has_names m.shape ≡ false
 
 pub free_is : (t : StructShape) (k : ℕ) (m : Member) → is_open t k m ≡ true → IsFree t k m
 free_is t k m h =
@@ -70,6 +71,7 @@ free_is t k m h =
       arm = none_is m.arm a;
       tags = not_true (list_any (λ (u : UnionShape). u.tag == k) t.unions) tags;
       names = not_true (list_any (λ (x : Member). shape_names k x.shape) t.members) names;
+      nameless = not_true (has_names m.shape) (both_first (not (has_names m.shape)) _ last);
     }
 
 -- ---- bounds that do not name what changes
@@ -149,7 +151,8 @@ module _ (table : Table) (types : HasTypes table) (blocks : List Block) (bytes n
         by : (o : Option (ℕ × ℤ)) → m.arm ≡ o → is_used after c u o ≡ true → is_used bytes c u o ≡ true
         by None e h = h
         by (Some arm) e h =
-            let r = (facts.arm arm.0 arm.1 e).0 in
+            let in' = facts.arm arm.0 arm.1 e in
+            let r : (x : UnionShape) × (slice_get u.unions arm.0 ≡ Some x) = (in'.union, in'.union_is) in
             let other : r.0.tag ≢ k = eqb_not r.0.tag k (none_of (λ (u : UnionShape). u.tag == k) u.unions free.tags arm.0 r.0 r.1) in
             let number : unwrap_or (option_map (λ (u : UnionShape). u.tag) (slice_get u.unions arm.0)) 0 ≡ r.0.tag = ap (λ (o : Option UnionShape). unwrap_or (option_map (λ (u : UnionShape). u.tag) o) 0) r.1 in
             let value : member_value after c u (unwrap_or (option_map (λ (u : UnionShape). u.tag) (slice_get u.unions arm.0)) 0) ≡ member_value bytes c u (unwrap_or (option_map (λ (u : UnionShape). u.tag) (slice_get u.unions arm.0)) 0) =

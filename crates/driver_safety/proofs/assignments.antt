@@ -3,6 +3,7 @@ pub mod Coercions
 pub mod Handing
 pub mod LightBounds
 pub mod StructNames
+pub mod MemberNames
 pub mod SlotChanges
 pub mod AutomaticAssign
 pub mod ElementStores

@@ -160,6 +160,9 @@ pub record IsStructOf (table : Table) (s : ℕ) (t : StructShape) : Type 0 where
   pub fields : (name : List ℕ) (k : ℕ) (m : Member) → field table s name ≡ Some k → slice_get t.members k ≡ Some m → m.arm ≡ None
   pub arms : (u : ℕ) (name : List ℕ) (k : ℕ) (m : Member) → arm table s u name ≡ Some k → slice_get t.members k ≡ Some m → (z : ℤ) × (m.arm ≡ Some (u, z)) × (m.count ≡ 1)
   pub tags : (u : ℕ) (x : UnionShape) → slice_get t.unions u ≡ Some x → IsTag t x.tag
+  -- a union lies within the struct, and has a tag of its own
+  pub unions : (u : ℕ) (x : UnionShape) → slice_get t.unions u ≡ Some x → x.offset + x.size ≤ t.size
+  pub own_tag : (u v : ℕ) (x y : UnionShape) → slice_get t.unions u ≡ Some x → slice_get t.unions v ≡ Some y → x.tag ≡ y.tag → x ≡ y
   -- each arm of a union has a constant of its own
   pub distinct : (j k : ℕ) (a b : Member) → slice_get t.members j ≡ Some a → slice_get t.members k ≡ Some b → j ≢ k
       → (u : ℕ) (y z : ℤ) → a.arm ≡ Some (u, y) → b.arm ≡ Some (u, z) → y ≢ z

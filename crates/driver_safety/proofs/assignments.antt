@@ -4,6 +4,7 @@ pub mod Handing
 pub mod LightBounds
 pub mod StructNames
 pub mod MemberNames
+pub mod MemberStores
 pub mod SlotChanges
 pub mod AutomaticAssign
 pub mod ElementStores

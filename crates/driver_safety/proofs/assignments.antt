@@ -3,6 +3,8 @@ pub mod Coercions
 pub mod Handing
 pub mod LightBounds
 pub mod StructNames
+pub mod TagRules
+pub mod MemberAssign
 pub mod MemberNames
 pub mod MemberStores
 pub mod SlotChanges

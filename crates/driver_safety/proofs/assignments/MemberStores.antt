@@ -99,29 +99,29 @@ module _ (f : CheckedFn) (ctx : Context) (blocks : List Block) (st : State) (goo
       }
 
   module _ (a : ℕ) (here : IsHere a) (scalar : Scalar) (leaf : IsLeaf w.shape) (size : scalar_size scalar ≡ shape_size ctx.table.structs w.shape) (v : ℤ) where
-    abbrev block : IsBlock ctx.table blocks st.memory here.lies.block
+    abbrev pub block : IsBlock ctx.table blocks st.memory here.lies.block
     block = struct_block f ctx blocks st good types s base here.lies
 
-    abbrev open_place : IsOpenAt ctx.table.elems ctx.table.structs here.lies.block (shape.Struct s) base
+    abbrev pub open_place : IsOpenAt ctx.table.elems ctx.table.structs here.lies.block (shape.Struct s) base
     open_place = here.lies.place
 
-    abbrev at : ℕ
+    abbrev pub at : ℕ
     at = element_from here.lies.block open_place.place
 
-    abbrev new : List ℕ
+    abbrev pub new : List ℕ
     new = bytes_for scalar v
 
-    fills : length new ≡ shape_size ctx.table.structs w.shape
+    pub fills : length new ≡ shape_size ctx.table.structs w.shape
     fills = length-low_bytes (scalar_size scalar) (low_bits 32 v) ∙ size
 
-    same_shape : block.shape ≡ open_place.element
+    pub same_shape : block.shape ≡ open_place.element
     same_shape = some_same block.shape open_place.element (sym block.shape_is ∙ open_place.element_is)
 
-    part : Lies ctx.table.structs is_any at block.shape base (shape.Struct s)
+    pub part : Lies ctx.table.structs is_any at block.shape base (shape.Struct s)
     part = subst (λ (x : Shape). Lies ctx.table.structs is_any at x base (shape.Struct s)) (sym same_shape)
         (any_part ctx.table.structs at open_place.element base (shape.Struct s) open_place.part)
 
-    inside : at + shape_size ctx.table.structs block.shape ≤ length st.memory.bytes
+    pub inside : at + shape_size ctx.table.structs block.shape ≤ length st.memory.bytes
     inside =
         let bytes : elem_bytes ctx.table.elems ctx.table.structs here.lies.block.layout.elem ≡ shape_size ctx.table.structs block.shape =
         ap (λ (o : Option Shape). unwrap_or (option_map (shape_size ctx.table.structs) o) 0) block.shape_is in
@@ -132,7 +132,7 @@ module _ (f : CheckedFn) (ctx : Context) (blocks : List Block) (st : State) (goo
         let next : (open_place.place + 1) * here.lies.block.layout.size ≡ open_place.place * here.lies.block.layout.size + here.lies.block.layout.size = grind arith in
         omega (arith, bytes, width, more, next, there)
 
-    abbrev fit : BytesFit blocks ctx.table.elems ctx.table.structs st.memory.bytes at block.shape
+    abbrev pub fit : BytesFit blocks ctx.table.elems ctx.table.structs st.memory.bytes at block.shape
     fit = block.fit open_place.place here.lies.no_text open_place.within
 
     -- the memory behind the store

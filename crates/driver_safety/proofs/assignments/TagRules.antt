@@ -48,11 +48,12 @@ found_first p [] a y h g = absurd cc
 found_first p (x ∷ xs) zero y h g =
     let holds : p x ≡ true = ap p (some_same x y h) ∙ g in
     (0, x, ap (λ (b : Bool). cond b (Some x) (find p xs)) holds, refl, holds)
-found_first p (x ∷ xs) (suc a) y h g = by (p x) refl
+found_first p (x ∷ xs) (suc a) y h g = by (found_first p xs a y h g) (p x) refl
   where
-    by : (b : Bool) → p x ≡ b → (c : ℕ) × (z : UnionShape) × (find p (x ∷ xs) ≡ Some z) × (slice_get (x ∷ xs) c ≡ Some z) × (p z ≡ true)
-    by true e = (0, x, ap (λ (b : Bool). cond b (Some x) (find p xs)) e, refl, e)
-    by false e = let r = found_first p xs a y h g in (suc r.0, r.1, ap (λ (b : Bool). cond b (Some x) (find p xs)) e ∙ r.2, r.3, r.4)
+    by : (b : ℕ) × (z : UnionShape) × (find p xs ≡ Some z) × (slice_get xs b ≡ Some z) × (p z ≡ true) → (b : Bool) → p x ≡ b
+        → (c : ℕ) × (z : UnionShape) × (find p (x ∷ xs) ≡ Some z) × (slice_get (x ∷ xs) c ≡ Some z) × (p z ≡ true)
+    by r true e = (0, x, ap (λ (b : Bool). cond b (Some x) (find p xs)) e, refl, e)
+    by r false e = (suc r.0, r.1, ap (λ (b : Bool). cond b (Some x) (find p xs)) e ∙ r.2, r.3, r.4)
 
 -- whatever member it is
 module _ (f : CheckedFn) (ctx : Context) (st : State) where
@@ -72,3 +73,12 @@ module _ (f : CheckedFn) (ctx : Context) (st : State) where
         where
           optional : (u : UnionShape) → tagged (unions_of ctx.table s) m ≡ Some u → Sound f st ctx.first (optional_kept ctx p offset scalar new (Some u)) (KeepsTag f ctx st p offset scalar new u)
           optional u e = subst (λ (o : Option UnionShape). Sound f st ctx.first (optional_kept ctx p offset scalar new o) (KeepsTag f ctx st p offset scalar new u)) e (tag_sound f ctx st p s m offset scalar new u e)
+
+-- what is found is there
+pub find_there : (p : UnionShape → Bool) (xs : List UnionShape) (y : UnionShape) → find p xs ≡ Some y → (b : ℕ) × (slice_get xs b ≡ Some y)
+find_there p [] y h = absurd cc
+find_there p (x ∷ xs) y h = by (λ e. find_there p xs y e) (p x) refl
+  where
+    by : (find p xs ≡ Some y → (b : ℕ) × (slice_get xs b ≡ Some y)) → (b : Bool) → p x ≡ b → (c : ℕ) × (slice_get (x ∷ xs) c ≡ Some y)
+    by rest true e = (0, sym (ap (λ (b : Bool). cond b (Some x) (find p xs)) e) ∙ h)
+    by rest false e = let r = rest (sym (ap (λ (b : Bool). cond b (Some x) (find p xs)) e) ∙ h) in (suc r.0, r.1)

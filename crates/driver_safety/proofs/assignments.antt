@@ -16,4 +16,4 @@ pub mod SlotAssign
 pub mod Conversions
 pub mod Refitting
 pub mod KeptRules
-pub mod LocalAssignments
+pub mod Assignments

@@ -7,4 +7,4 @@ pub mod Derivations
 pub mod WrittenNumbers
 pub mod LightHandling
 pub mod ExpressionLaw
-pub mod LocalAssignmentLaw
+pub mod AssignmentLaw

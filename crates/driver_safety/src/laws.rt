@@ -1,6 +1,6 @@
 //! The laws.
+ghost use Rattle.driver_safety.specs.AssignmentLaw.{EachAssignmentIsSound};
 ghost use Rattle.driver_safety.specs.ExpressionLaw.{EachPlaceIsSound, EachValueIsSound};
-ghost use Rattle.driver_safety.specs.LocalAssignmentLaw.{EachLocalAssignmentIsSound};
 
 /// An expression that the rules derive is, in a good state, what they take it for, or one of its checks fails: it is never wild. A place lies in a granted block, where its
 /// type is declared; an array lies in one with all its elements; an arm of a union is one that the tag selects.
@@ -14,8 +14,8 @@ pub fn every_value_is_sound()
     ensures { EachValueIsSound }
 {}
 
-/// An assignment to a local or parameter, in a good state, fails a check or leaves a good state: what is assigned fits the local's type, and each pointer whose annotation
-/// names the local fits with its new value.
-pub fn an_assignment_to_a_local_is_sound()
-    ensures { EachLocalAssignmentIsSound }
+/// An assignment, in a good state, fails a check or leaves a good state: what is assigned fits the type of its place; each pointer of the function or struct whose
+/// annotation names the place fits with the new value; a tag keeps its value, or all bytes of its union are 0; and a text keeps its end.
+pub fn every_assignment_is_sound()
+    ensures { EachAssignmentIsSound }
 {}

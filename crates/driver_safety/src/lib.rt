@@ -4,6 +4,4 @@
 
 mod laws;
 
-pub use laws::{
-    an_assignment_to_a_local_is_sound, every_place_is_sound, every_value_is_sound,
-};
+pub use laws::{every_assignment_is_sound, every_place_is_sound, every_value_is_sound};

@@ -7,6 +7,7 @@ use Rattle.deputy_rules.specs.declared.asked.Asked.{Asked}
 use Rattle.deputy_rules.specs.declared.asked.AskedCond.{AskedCond}
 use Rattle.deputy_rules.specs.Context.{Context}
 use Rattle.deputy_rules.specs.Deriving.{Deriving, bind, pure, none, lift, ask}
+use Rattle.deputy_types.specs.Options.{and_then}
 use Rattle.deputy_types.proofs.Inversions.{some_then}
 use Rattle.driver_safety.specs.Passing.{IsFront, IsTested, AreTested}
 
@@ -73,6 +74,16 @@ module _ (f : CheckedFn) (st : State) (first : ℕ) where
     run = λ s b t h.
         let r = some_then o (λ a. Some (a, s)) (b, t) h in
         (front_same s t (pair_second r.0 b s t r.2), λ all. subst Q (pair_first r.0 b s t r.2) (q r.0 r.1));
+  }
+
+  -- what is looked up, and then a rule that goes by what was found
+  pub known_sound : {A B : Type 0} (o : Option A) (g : A → Deriving B) (R : B → Type 0) → ((a : A) → o ≡ Some a → Sound (g a) R) → Sound (bind (lift o) g) R
+  unfolding bind
+  known_sound {A} o g R k = record {
+    run = λ s b t h.
+        let r = some_then (and_then o (λ a. Some (a, s))) (λ x. g x.0 x.1) (b, t) h in
+        let q = some_then o (λ a. Some (a, s)) r.0 r.1 in
+        (k q.0 q.1).run s b t (ap (λ (x : A × List Asked). g x.0 x.1) (some_same (q.0, s) r.0 q.2) ∙ r.2);
   }
 
   pub if_sound : {A : Type 0} (b : Bool) (p q : Deriving A) (Q : A → Type 0) → (b ≡ true → Sound p Q) → (b ≡ false → Sound q Q) → Sound (if b then p else q) Q

@@ -1,7 +1,7 @@
--- The law of assignments to locals: what is assigned fits the type of the local, and each pointer whose annotation names the local still fits, with the new value.
+-- The law of assignments: what is assigned fits the type of its place, each pointer whose annotation names the place still fits, with the new value, a tag keeps its value or
+-- its union is clear, and a text keeps its end.
 use Rattle.std.specs.Prelude.{◌≡◌, IsTrue, ℕ, List, [], Some, length}
 use Rattle.sd_base.specs.Blocks.{Block}
-use Rattle.checked_tree.specs.declared.shapes.Shape.{Shape}
 use Rattle.checked_tree.specs.declared.statements.CheckedStmt.{CheckedStmt, out-CheckedStmt}
 use Rattle.checked_tree.specs.declared.units.CheckedFn.{CheckedFn}
 use Rattle.checked_tree.specs.Act.{act, On}
@@ -10,9 +10,8 @@ use Rattle.checked_tree.specs.Outcome.{Safe}
 use Rattle.c_tree.specs.declared.expressions.Expr.{Expr}
 use Rattle.deputy_rules.specs.declared.asked.Asked.{Asked}
 use Rattle.deputy_rules.specs.declared.derived.Derived.{Derived}
-use Rattle.deputy_rules.specs.Assignment.{assign_local}
-use Rattle.deputy_rules.specs.Context.{Context, slot_shape}
-use Rattle.deputy_rules.specs.Deriving.{◌>>=◌}
+use Rattle.deputy_rules.specs.Assignment.{assign}
+use Rattle.deputy_rules.specs.Context.{Context}
 use Rattle.deputy_rules.specs.Expressions.{derive}
 use Rattle.deputy_rules.specs.Numbering.{Numbered, numbered}
 use Rattle.driver_safety.specs.Goodness.{IsGood}
@@ -21,17 +20,15 @@ use Rattle.driver_safety.specs.Passing.{StandIn}
 use Rattle.driver_safety.specs.TypeFacts.{HasTypes, HasSlots}
 use Rattle.driver_safety.specs.WrittenNumbers.{has_words}
 
--- `x = e`, where x is the local or parameter in this slot: the checks of e come first, then those of the assignment. All have numbers behind those before, and the
--- function has them
-pub record IsAssignedIn (f : CheckedFn) (ctx : Context) (slot : ℕ) (e : Expr) (c : CheckedStmt) : Type 0 where
+-- `l = e` is derived where it stands, its checks have numbers behind those before, and the function has them
+pub record IsAssignedIn (f : CheckedFn) (ctx : Context) (l e : Expr) (c : CheckedStmt) : Type 0 where
   pub types : HasTypes ctx.table
   pub slots : HasSlots ctx
-  pub words : IsTrue (has_words e)
+  pub left : IsTrue (has_words l)
+  pub right : IsTrue (has_words e)
   pub light : (d : Derived) (asked : List Asked) → derive ctx e [] ≡ Some (d, asked) → HandsLightly ctx d
-  pub shape : Shape
-  pub shape_is : slot_shape ctx slot ≡ Some shape
   pub asked : List Asked
-  pub derived : (derive ctx e >>= λ d. assign_local ctx slot d shape) [] ≡ Some (c, asked)
+  pub derived : assign ctx l e [] ≡ Some (c, asked)
   pub before : Numbered
   pub first : ctx.first ≡ length before.checks
   pub after : Numbered
@@ -39,6 +36,6 @@ pub record IsAssignedIn (f : CheckedFn) (ctx : Context) (slot : ℕ) (e : Expr) 
   pub stand : StandIn f after
 
 -- then in each good state the statement is not wild: it fails a check, or leaves a good state and goes on behind itself
-abbrev pub EachLocalAssignmentIsSound : Type 0
-EachLocalAssignmentIsSound = (f : CheckedFn) (ctx : Context) (slot : ℕ) (e : Expr) (c : CheckedStmt) → IsAssignedIn f ctx slot e c
+abbrev pub EachAssignmentIsSound : Type 0
+EachAssignmentIsSound = (f : CheckedFn) (ctx : Context) (l e : Expr) (c : CheckedStmt) → IsAssignedIn f ctx l e c
     → (blocks : List Block) (st : State) → IsGood ctx blocks st → Safe (act [] f st (out-CheckedStmt c)) (λ a. IsGood ctx blocks a.state × (a.turn ≡ On))

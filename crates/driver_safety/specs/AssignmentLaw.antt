@@ -1,4 +1,5 @@
--- The law of assignments: what is assigned fits the type of its place, each pointer whose annotation names the place still fits, with the new value, a tag keeps its value or
+-- The law of assignments: what is assigned fits the type of its place, each pointer whose annotation names the place still fits, with the
+-- new value, a tag keeps its value or
 -- its union is clear, and a text keeps its end.
 use Rattle.std.specs.Prelude.{◌≡◌, IsTrue, ℕ, List, [], Some, length}
 use Rattle.sd_base.specs.Blocks.{Block}
@@ -38,4 +39,5 @@ pub record IsAssignedIn (f : CheckedFn) (ctx : Context) (l e : Expr) (c : Checke
 -- then in each good state the statement is not wild: it fails a check, or leaves a good state and goes on behind itself
 abbrev pub EachAssignmentIsSound : Type 0
 EachAssignmentIsSound = (f : CheckedFn) (ctx : Context) (l e : Expr) (c : CheckedStmt) → IsAssignedIn f ctx l e c
-    → (blocks : List Block) (st : State) → IsGood ctx blocks st → Safe (act [] f st (out-CheckedStmt c)) (λ a. IsGood ctx blocks a.state × (a.turn ≡ On))
+    → (blocks : List Block) (st : State) → IsGood ctx blocks st → Safe (act [] f st (out-CheckedStmt c)) (λ a. IsGood ctx blocks a.state
+    × (a.turn ≡ On))

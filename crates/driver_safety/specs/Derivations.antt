@@ -1,4 +1,5 @@
--- What the rules' expressions are in a good state: an integer in the range of its type, a pointer that reaches what its bounds say, a place in a granted block.
+-- What the rules' expressions are in a good state: an integer in the range of its type, a pointer that reaches what its bounds say, a place
+-- in a granted block.
 use Rattle.std.specs.Prelude.{◌≡◌, ◌≢◌, IsTrue, ℕ, ◌+◌, ◌*◌, ◌<◌, ◌≤◌, Bool, true, false, List, [], ℤ, pos, Option, Some, None, slice_get, Ok}
 use Rattle.std.specs.List.{Contains}
 use Rattle.sd_base.specs.Blocks.{Block, block_end}
@@ -108,7 +109,8 @@ pub record IsArray (ctx : Context) (blocks : List Block) (st : State) (a : Array
   pub type_is : IsType ctx.table a.elem
   pub from : block.base ≤ address
   pub to : address + a.count * size_of ctx a.elem ≤ block_end block
-  pub elements : (i : ℕ) → i < a.count → IsOpenAt ctx.table.elems ctx.table.structs block (key_shape ctx.table a.elem) (address + i * size_of ctx a.elem)
+  pub elements : (i : ℕ) → i < a.count → IsOpenAt ctx.table.elems ctx.table.structs block (key_shape ctx.table a.elem)
+      (address + i * size_of ctx a.elem)
 
 -- the struct place in which a union lies
 pub record IsUnion (ctx : Context) (blocks : List Block) (st : State) (u : UnionPlace) (z : ℤ) : Type 0 where

@@ -30,7 +30,8 @@ pub record IsDerivedIn (f : CheckedFn) (ctx : Context) (e : Expr) (d : Derived) 
   pub numbers : numbered asked before ≡ Some after
   pub stand : StandIn f after
 
--- then in each good state its place, and its value where it has one, evaluates to what the rules take it for, or fails a check. It is not wild
+-- then in each good state its place, and its value where it has one, evaluates to what the rules take it for, or fails a check. It is not
+-- wild
 abbrev pub EachPlaceIsSound : Type 0
 EachPlaceIsSound = (f : CheckedFn) (ctx : Context) (e : Expr) (d : Derived) → IsDerivedIn f ctx e d
     → (blocks : List Block) (st : State) → IsGood ctx blocks st → IsDerived f ctx blocks st d

@@ -1,4 +1,5 @@
--- A good state of a function's frame and of the memory: each local is in the range of its type, and each pointer, in a slot and in memory, fits by the names of its own
+-- A good state of a function's frame and of the memory: each local is in the range of its type, and each pointer, in a slot and in memory,
+-- fits by the names of its own
 -- function or struct. The frame and the memory do not speak of each other; both read the granted blocks alone.
 use Rattle.std.specs.Prelude.{◌≡◌, ◌⊎◌, IsTrue, ℕ, ◌+◌, ◌-◌, ◌*◌, ◌<◌, ◌≤◌, Bool, true, false, List, All, ℤ, pos, Option, Some, None, length, slice_get, slice_index_or}
 use Rattle.std.specs.List.{Contains}
@@ -21,7 +22,8 @@ use Rattle.deputy_rules.specs.NameValues.{local_at}
 -- a local pointer whose bounds lie in two hidden slots
 abbrev pub FitsHidden : Context → List Block → State → ℕ → ℕ → Option ℕ → Type 0
 FitsHidden ctx blocks st slot elem None = ⊥
-FitsHidden ctx blocks st slot elem (Some h) = Fits blocks ctx.table.elems ctx.table.structs elem false (local_at st h) (local_at st (h + 1)) (local_at st slot)
+FitsHidden ctx blocks st slot elem (Some h) = Fits blocks ctx.table.elems ctx.table.structs elem false (local_at st h)
+    (local_at st (h + 1)) (local_at st slot)
 
 -- a pointer in a slot fits by the names of its own frame
 abbrev pub SlotFits : Context → List Block → State → ℕ → ℕ → Bounds → Type 0

@@ -65,7 +65,8 @@ Passes st (asked.Equal p z) = part_at st p ≡ z
 Passes st (asked.Term at new) = IsTrue (not (clear_at st (sum_at st at) 1) || is_end (new_at st new))
 Passes st (asked.Kept old new at size) = (part_at st old ≡ part_at st new) ⊎ IsTrue (clear_at st (sum_at st at) size)
 
--- the function's check with this number tests the condition: where its expressions have values, the test is not wild, and passes only where it holds
+-- the function's check with this number tests the condition: where its expressions have values, the test is not wild, and passes only where
+-- it holds
 pub record IsTested (f : CheckedFn) (st : State) (id : ℕ) (cond : AskedCond) : Type 0 where
   pub tested : HasSides st cond → Safe (test f st (check_of f id)) (λ _. Passes st cond)
 

@@ -28,5 +28,7 @@ IsLeaf _ = Unit {0}
 -- structs whose members lie beside one another, and whose arms are numbers or pointers: so is each table
 pub record AreTidy (structs : List StructShape) : Type 0 where
   pub nested : AreNested structs
-  pub beside : (s : ℕ) (t : StructShape) (j k : ℕ) (a b : Member) → slice_get structs s ≡ Some t → slice_get t.members j ≡ Some a → slice_get t.members k ≡ Some b → j ≢ k → Beside structs a b
-  pub plain : (s : ℕ) (t : StructShape) (k : ℕ) (a : Member) (u : ℕ) (z : ℤ) → slice_get structs s ≡ Some t → slice_get t.members k ≡ Some a → a.arm ≡ Some (u, z) → IsLeaf a.shape
+  pub beside : (s : ℕ) (t : StructShape) (j k : ℕ) (a b : Member) → slice_get structs s ≡ Some t → slice_get t.members j ≡ Some a
+      → slice_get t.members k ≡ Some b → j ≢ k → Beside structs a b
+  pub plain : (s : ℕ) (t : StructShape) (k : ℕ) (a : Member) (u : ℕ) (z : ℤ) → slice_get structs s ≡ Some t → slice_get t.members k ≡ Some
+      a → a.arm ≡ Some (u, z) → IsLeaf a.shape

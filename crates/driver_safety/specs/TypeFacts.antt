@@ -155,11 +155,23 @@ pub record IsTag (t : StructShape) (k : ℕ) : Type 0 where
   pub one : member.count ≡ 1
   pub no_arm : member.arm ≡ None
 
+-- the arm that has all bytes of a union
+pub record IsFilled (table : Table) (t : StructShape) (u : ℕ) (x : UnionShape) : Type 0 where
+  pub number : ℕ
+  pub member : Member
+  pub found : slice_get t.members number ≡ Some member
+  pub constant : ℤ
+  pub arm_is : member.arm ≡ Some (u, constant)
+  pub size : shape_size table.structs member.shape ≡ x.size
+
 pub record IsStructOf (table : Table) (s : ℕ) (t : StructShape) : Type 0 where
   pub members : (k : ℕ) (m : Member) → slice_get t.members k ≡ Some m → IsMemberOf table s t k m
   pub fields : (name : List ℕ) (k : ℕ) (m : Member) → field table s name ≡ Some k → slice_get t.members k ≡ Some m → m.arm ≡ None
-  pub arms : (u : ℕ) (name : List ℕ) (k : ℕ) (m : Member) → arm table s u name ≡ Some k → slice_get t.members k ≡ Some m → (z : ℤ) × (m.arm ≡ Some (u, z)) × (m.count ≡ 1)
+  pub arms : (u : ℕ) (name : List ℕ) (k : ℕ) (m : Member) → arm table s u name ≡ Some k → slice_get t.members k ≡ Some m → (z : ℤ)
+      × (m.arm ≡ Some (u, z)) × (m.count ≡ 1)
   pub tags : (u : ℕ) (x : UnionShape) → slice_get t.unions u ≡ Some x → IsTag t x.tag
+  -- one arm of a union has all its bytes
+  pub filled : (u : ℕ) (x : UnionShape) → slice_get t.unions u ≡ Some x → IsFilled table t u x
   -- a union lies within the struct, and has a tag of its own
   pub unions : (u : ℕ) (x : UnionShape) → slice_get t.unions u ≡ Some x → x.offset + x.size ≤ t.size
   pub own_tag : (u v : ℕ) (x y : UnionShape) → slice_get t.unions u ≡ Some x → slice_get t.unions v ≡ Some y → x.tag ≡ y.tag → x ≡ y
@@ -184,7 +196,8 @@ pub record HasTypes (t : Table) : Type 0 where
   pub elements : (n : ℕ) (key : Element) → element_at t n ≡ Some key → (slice_get t.elems n ≡ Some (key_shape t key)) × IsType t key
   pub bytes : (key : Element) → shape_size t.structs (key_shape t key) ≡ (key_extent t.extents key).bytes
   pub small : (name : TypeName) (n : ℕ) → size t name ≡ Some n → n ≤ 65536
-  pub globals : (name : List ℕ) (g : GlobalPlace) (b : ImageBlock) → global t name ≡ Some g → slice_get t.image g.block ≡ Some b → IsGlobal b
+  pub globals : (name : List ℕ) (g : GlobalPlace) (b : ImageBlock) → global t name ≡ Some g → slice_get t.image g.block ≡ Some b
+      → IsGlobal b
   pub strings : (k n : ℕ) (b : ImageBlock) → literal t k ≡ Some n → slice_get t.image n ≡ Some b → IsString b
 
 -- ---- the slots of a function
@@ -214,9 +227,12 @@ pub record NamesSlots (ctx : Context) (e : Edge) : Type 0 where
 
 pub record HasSlots (ctx : Context) : Type 0 where
   pub shapes : (k : ℕ) (x : Shape) → slot_shape ctx k ≡ Some x → IsSlotShape ctx.table x
-  pub names : (k elem : ℕ) (lo hi : Edge) → slot_shape ctx k ≡ Some (shape.Pointer elem (bounds.Within lo hi)) → NamesSlots ctx lo × NamesSlots ctx hi
+  pub names : (k elem : ℕ) (lo hi : Edge) → slot_shape ctx k ≡ Some (shape.Pointer elem (bounds.Within lo hi)) → NamesSlots ctx lo
+      × NamesSlots ctx hi
   -- a pointer's bounds begin at itself or at another one
-  pub own : (k elem : ℕ) (lo hi : Edge) → slot_shape ctx k ≡ Some (shape.Pointer elem (bounds.Within lo hi)) → (lo.base ≢ Some k) × (hi.base ≢ Some k)
+  pub own : (k elem : ℕ) (lo hi : Edge) → slot_shape ctx k ≡ Some (shape.Pointer elem (bounds.Within lo hi)) → (lo.base ≢ Some k)
+      × (hi.base ≢ Some k)
   -- the hidden slots of an automatic pointer, which no other one has
-  pub hidden : (k h : ℕ) → hidden_slot ctx.locals k ≡ Some h → (slot_shape ctx h ≡ Some shape.Address) × (slot_shape ctx (h + 1) ≡ Some shape.Address)
+  pub hidden : (k h : ℕ) → hidden_slot ctx.locals k ≡ Some h → (slot_shape ctx h ≡ Some shape.Address)
+      × (slot_shape ctx (h + 1) ≡ Some shape.Address)
   pub apart : (j h k g : ℕ) → hidden_slot ctx.locals j ≡ Some h → hidden_slot ctx.locals k ≡ Some g → j ≢ k → (h + 1 < g) ⊎ (g + 1 < h)

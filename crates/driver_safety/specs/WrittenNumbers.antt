@@ -1,4 +1,5 @@
--- The numbers and characters that an expression is written with, as C's words are: a number has a value of 32 bits (C99 6.4.4.1, where `long` has as many),
+-- The numbers and characters that an expression is written with, as C's words are: a number has a value of 32 bits (C99 6.4.4.1, where
+-- `long` has as many),
 -- a character one of 8.
 use Rattle.std.specs.Prelude.{ℕ, ◌^◌, nat_lt, Bool, true, ◌&&◌}
 use Rattle.c_tree.specs.declared.expressions.Expr.{Expr}

@@ -35,12 +35,14 @@ use Rattle.driver_safety.proofs.expressions.Expressions.{derive_sound}
 use Rattle.driver_safety.proofs.expressions.OperatorRules.{integer_sound}
 
 -- the first step of two
-pub first_step : (p : Deriving Derived) (g : Derived → Deriving CheckedStmt) (c : CheckedStmt) (asked : List Asked) → bind p g [] ≡ Some (c, asked)
+pub first_step : (p : Deriving Derived) (g : Derived → Deriving CheckedStmt) (c : CheckedStmt) (asked : List Asked)
+    → bind p g [] ≡ Some (c, asked)
     → (d : Derived) × (t : List Asked) × (p [] ≡ Some (d, t)) × (g d t ≡ Some (c, asked))
 unfolding bind
 first_step p g c asked h = let r = some_then (p []) (λ x. g x.0 x.1) (c, asked) h in (r.0.0, r.0.1, r.1, r.2)
 
-module _ (f : CheckedFn) (ctx : Context) (blocks : List Block) (st : State) (good : IsGood ctx blocks st) (types : HasTypes ctx.table) (slots : HasSlots ctx) where
+module _ (f : CheckedFn) (ctx : Context) (blocks : List Block) (st : State) (good : IsGood ctx blocks st) (types : HasTypes ctx.table)
+    (slots : HasSlots ctx) where
   abbrev Is : Derived → Type 0
   Is d = IsDerived f ctx blocks st d
 
@@ -48,11 +50,13 @@ module _ (f : CheckedFn) (ctx : Context) (blocks : List Block) (st : State) (goo
   LeavesGood c = Leaves f ctx blocks st good types slots c
 
   -- to a place, by where its type is declared
-  store_by_sound : (p : Place) (x : Derived) (y : Source) → p.source ≡ y → Sound f st ctx.first (store_by ctx p x y) (λ c. Is x → Is (derived.Place p) → LeavesGood c)
+  store_by_sound : (p : Place) (x : Derived) (y : Source) → p.source ≡ y → Sound f st ctx.first (store_by ctx p x y) (λ c. Is x
+      → Is (derived.Place p) → LeavesGood c)
   store_by_sound p x (source.Element key) from = store_element_sound f ctx blocks st good types slots p x key from
   store_by_sound p x source.Text from =
       then_sound f st ctx.first _ _ (λ w. integer_of ctx x ≡ Some w) _ (lift_sound f st ctx.first (integer_of ctx x) _ (λ w e. e)) (λ w.
-      weaker f st ctx.first _ _ _ (λ c q e dx dp. q (integer_sound f ctx blocks st good types slots x w e dx) dp) (store_byte_sound f ctx blocks st good types slots p w from))
+      weaker f st ctx.first _ _ _ (λ c q e dx dp. q (integer_sound f ctx blocks st good types slots x w e dx) dp)
+      (store_byte_sound f ctx blocks st good types slots p w from))
   store_by_sound p x (source.Member s m) from =
       known_sound f st ctx.first (member ctx.table s m) (λ y. store_member ctx p x s m y.offset y.shape) _ (λ y found.
       store_member_sound f ctx blocks st good types slots p s m y found x from)
@@ -71,11 +75,12 @@ unfolding assign
 each_assignment f ctx l e c is blocks st good =
     let r = first_step (derive ctx e) (λ x. bind (derive ctx l) (assign_to ctx x)) c is.asked is.derived in
     let tested = subst (λ (n : ℕ). AreTested f st n is.asked) (sym is.first)
-        ((numbered_tested f st is.asked is.before is.after is.numbers).tested is.stand.atoms is.stand.checks) in
+    ((numbered_tested f st is.asked is.before is.after is.numbers).tested is.stand.atoms is.stand.checks) in
     let one = (derive_sound f ctx blocks st good is.types is.slots e is.right).run [] r.0 r.1 r.2 in
     let both = then_sound f st ctx.first (derive ctx l) (assign_to ctx r.0) (IsDerived f ctx blocks st) _
-        (derive_sound f ctx blocks st good is.types is.slots l is.left)
-        (λ y. weaker f st ctx.first _ _ (λ c. IsDerived f ctx blocks st y → HandsLightly ctx r.0 → IsDerived f ctx blocks st r.0 → Leaves f ctx blocks st good is.types is.slots c)
-          (λ c q dy light dx. q light dx dy) (assign_to_sound f ctx blocks st good is.types is.slots r.0 y)) in
+    (derive_sound f ctx blocks st good is.types is.slots l is.left)
+    (λ y. weaker f st ctx.first _ _ (λ c. IsDerived f ctx blocks st y → HandsLightly ctx r.0 → IsDerived f ctx blocks st r.0
+    → Leaves f ctx blocks st good is.types is.slots c)
+    (λ c q dy light dx. q light dx dy) (assign_to_sound f ctx blocks st good is.types is.slots r.0 y)) in
     let two = both.run r.1 c is.asked r.3 in
     two.1 tested (is.light r.0 r.1 r.2) (one.1 (tested_front f st ctx.first r.1 is.asked two.0 tested))

@@ -1,4 +1,5 @@
--- An assignment to a pointer local without annotation, which takes its bounds with it in two hidden slots; and so each assignment to a local.
+-- An assignment to a pointer local without annotation, which takes its bounds with it in two hidden slots; and so each assignment to a
+-- local.
 use Rattle.std.proofs.Common.{◌≡◌, ◌≢◌, ◌⊎◌, inl, inr, ℕ, zero, suc, ◌+◌, ◌<◌, ◌^◌, ◌==◌, nat_lt, IsTrue, Bool, true, false, List, [], ◌∷◌, length, set, ℤ, pos, negsuc, Option, Some, None, Ok, Err, slice_get, slice_set, slice_index_or, if◌then◌else◌, refl, sym, ap, ◌∙◌, subst, true≢false, arith}
 use Rattle.std.specs.Ordering.{int_eq}
 use Rattle.std.proofs.lemmas.Bool.{lt-ltb}
@@ -73,10 +74,12 @@ word_lt n h = grind arith
 word_of_is : (z : ℤ) (n : ℕ) → z ≡ pos n → n < 2 ^ 32 → word_of z ≡ Ok n
 word_of_is z n e l = ap word_of e ∙ ap (λ (b : Bool). if b then Ok n else Err Wild) (lt-ltb n (2 ^ 32) l)
 
-bounded_is : (v lo hi : ℤ) (a l h : ℕ) → v ≡ pos a → lo ≡ pos l → hi ≡ pos h → a < 2 ^ 32 → l < 2 ^ 32 → h < 2 ^ 32 → bounded v lo hi ≡ Ok (record { value = a; lo = l; hi = h })
+bounded_is : (v lo hi : ℤ) (a l h : ℕ) → v ≡ pos a → lo ≡ pos l → hi ≡ pos h → a < 2 ^ 32 → l < 2 ^ 32 → h < 2 ^ 32 → bounded v lo hi ≡ Ok
+    (record { value = a; lo = l; hi = h })
 unfolding bounded
 bounded_is v lo hi a l h p q r x y z =
-    ap (λ (o : Outcome ℕ). o >>= λ value. word_of lo >>= λ low. word_of hi >>= λ high. Ok (record { value = value; lo = low; hi = high })) (word_of_is v a p x)
+    ap (λ (o : Outcome ℕ). o >>= λ value. word_of lo >>= λ low. word_of hi >>= λ high. Ok (record { value = value; lo = low; hi = high }))
+    (word_of_is v a p x)
     ∙ ap (λ (o : Outcome ℕ). o >>= λ low. word_of hi >>= λ high. Ok (record { value = a; lo = low; hi = high })) (word_of_is lo l q y)
     ∙ ap (λ (o : Outcome ℕ). o >>= λ high. Ok (record { value = a; lo = l; hi = high })) (word_of_is hi h r z)
 
@@ -84,7 +87,8 @@ natural : (v : ℤ) → IsTrue (is_word v) → (n : ℕ) × (v ≡ pos n)
 natural (pos n) h = (n, refl)
 natural (negsuc n) h = absurd cc
 
-module _ (f : CheckedFn) (ctx : Context) (blocks : List Block) (st : State) (good : IsGood ctx blocks st) (types : HasTypes ctx.table) (slots : HasSlots ctx) where
+module _ (f : CheckedFn) (ctx : Context) (blocks : List Block) (st : State) (good : IsGood ctx blocks st) (types : HasTypes ctx.table)
+    (slots : HasSlots ctx) where
   -- a pointer that is handed over with its bounds, each an address
   pub record IsFat (h : Handed) (elem : ℕ) (v : ℤ) (p : Fat) : Type 0 where
     pub is : with_bounds st h.low h.high v ≡ Ok p
@@ -94,19 +98,26 @@ module _ (f : CheckedFn) (ctx : Context) (blocks : List Block) (st : State) (goo
     pub high : p.hi < 2 ^ 32
     pub fits : Fits blocks ctx.table.elems ctx.table.structs elem false (pos p.lo) (pos p.hi) (pos p.value)
 
-  pub fat_is : (h : Handed) (elem : ℕ) (v : ℤ) → IsLightHanded h → IsHanded f ctx blocks st types h elem false v → (p : Fat) × IsFat h elem v p
+  pub fat_is : (h : Handed) (elem : ℕ) (v : ℤ) → IsLightHanded h → IsHanded f ctx blocks st types h elem false v → (p : Fat)
+      × IsFat h elem v p
   fat_is h elem v light here = by here.fits (int_eq v (pos 0)) refl
     where
       none : v ≡ pos 0 → (p : Fat) × IsFat h elem v p
-      none e = (null, record {
-        is = ap (λ (b : Bool). if b then Ok null else (sum_value st h.low >>= λ lo. sum_value st h.high >>= λ hi. bounded v lo hi)) ((Decides-int_eq v (pos 0)).1 e);
-        value = e;
-        word = omega arith;
-        low = omega arith;
-        high = omega arith;
-        fits = nowhere refl;
-      })
-      by : Fits blocks ctx.table.elems ctx.table.structs elem false here.lo here.hi v → (b : Bool) → int_eq v (pos 0) ≡ b → (p : Fat) × IsFat h elem v p
+      none e = (
+        null,
+        record {
+          is = ap (λ (b : Bool). if b then Ok null else (sum_value st h.low >>= λ lo. sum_value st h.high >>= λ hi. bounded v lo hi))
+              ((Decides-int_eq v (pos 0)).1 e);
+          value = e;
+          word = omega arith;
+          low = omega arith;
+          high = omega arith;
+          fits = nowhere refl;
+        },
+      )
+
+      by : Fits blocks ctx.table.elems ctx.table.structs elem false here.lo here.hi v → (b : Bool) → int_eq v (pos 0) ≡ b → (p : Fat)
+          × IsFat h elem v p
       by x true e = none ((Decides-int_eq v (pos 0)).0 e)
       by (nowhere z) false e = none z
       by (in_text n t) false e = absurd cc
@@ -118,22 +129,25 @@ module _ (f : CheckedFn) (ctx : Context) (blocks : List Block) (st : State) (goo
           let below = b.below in
           let a : b.at < 2 ^ 32 = omega (arith, below, to, end) in
           let l : b.from < 2 ^ 32 = omega (arith, above, below, to, end) in
-          let u : b.to < 2 ^ 32 = omega (arith, to, end) in
-          (record { value = b.at; lo = b.from; hi = b.to }, record {
-            is = ap (λ (c : Bool). if c then Ok null else (sum_value st h.low >>= λ lo. sum_value st h.high >>= λ hi. bounded v lo hi)) e
-              ∙ ap (λ (g : Got). g >>= λ lo. sum_value st h.high >>= λ hi. bounded v lo hi) (sum_is st h.low here.lo light.low here.low)
-              ∙ ap (λ (g : Got). g >>= λ hi. bounded v here.lo hi) (sum_is st h.high here.hi light.high here.high)
-              ∙ bounded_is v here.lo here.hi b.at b.from b.to b.at_is b.from_is b.to_is a l u;
-            value = b.at_is;
-            word = a;
-            low = l;
-            high = u;
-            fits = subst (λ (y : ℤ). Fits blocks ctx.table.elems ctx.table.structs elem false y (pos b.to) (pos b.at)) b.from_is
-              (subst (λ (y : ℤ). Fits blocks ctx.table.elems ctx.table.structs elem false here.lo y (pos b.at)) b.to_is
-              (subst (λ (y : ℤ). Fits blocks ctx.table.elems ctx.table.structs elem false here.lo here.hi y) b.at_is (in_bounds n b)));
-          })
+          let u : b.to < 2 ^ 32 = omega (arith, to, end) in (
+            record { value = b.at; lo = b.from; hi = b.to },
+            record {
+              is = ap (λ (c : Bool). if c then Ok null else (sum_value st h.low >>= λ lo. sum_value st h.high >>= λ hi. bounded v lo hi)) e
+                  ∙ ap (λ (g : Got). g >>= λ lo. sum_value st h.high >>= λ hi. bounded v lo hi) (sum_is st h.low here.lo light.low here.low)
+                  ∙ ap (λ (g : Got). g >>= λ hi. bounded v here.lo hi) (sum_is st h.high here.hi light.high here.high)
+                  ∙ bounded_is v here.lo here.hi b.at b.from b.to b.at_is b.from_is b.to_is a l u;
+              value = b.at_is;
+              word = a;
+              low = l;
+              high = u;
+              fits = subst (λ (y : ℤ). Fits blocks ctx.table.elems ctx.table.structs elem false y (pos b.to) (pos b.at)) b.from_is
+                  (subst (λ (y : ℤ). Fits blocks ctx.table.elems ctx.table.structs elem false here.lo y (pos b.at)) b.to_is
+                  (subst (λ (y : ℤ). Fits blocks ctx.table.elems ctx.table.structs elem false here.lo here.hi y) b.at_is (in_bounds n b)));
+            },
+          )
 
-  module _ (slot elem hidden : ℕ) (is : slot_shape ctx slot ≡ Some (shape.Pointer elem bounds.Hidden)) (hides : hidden_slot ctx.locals slot ≡ Some hidden) (p : Fat) where
+  module _ (slot elem hidden : ℕ) (is : slot_shape ctx slot ≡ Some (shape.Pointer elem bounds.Hidden)) (hides : hidden_slot ctx.locals slot
+      ≡ Some hidden) (p : Fat) where
     abbrev next : State
     next = with_pointer st slot hidden p
 
@@ -172,26 +186,42 @@ module _ (f : CheckedFn) (ctx : Context) (blocks : List Block) (st : State) (goo
     in_second k x h = subst (λ (n : ℕ). k < n) (sym (length-set first hidden (pos p.lo))) (in_first k x h)
 
     value_at : local_at next slot ≡ pos p.value
-    value_at = get_or-set_other second (hidden + 1) slot (pos p.hi) (pos 0) far_not ∙ get_or-set_other first hidden slot (pos p.lo) (pos 0) back_not
+    value_at = get_or-set_other second (hidden + 1) slot (pos p.hi) (pos 0) far_not ∙ get_or-set_other first hidden slot (pos p.lo) (pos 0)
+        back_not
         ∙ get_or-set_same st.locals slot (pos p.value) (pos 0) (good.frame.long slot (shape.Pointer elem bounds.Hidden) is)
 
     low_at : local_at next hidden ≡ pos p.lo
-    low_at = get_or-set_other second (hidden + 1) hidden (pos p.hi) (pos 0) (succ_not hidden) ∙ get_or-set_same first hidden (pos p.lo) (pos 0) (in_first hidden shape.Address hidden_shapes.0)
+    low_at = get_or-set_other second (hidden + 1) hidden (pos p.hi) (pos 0) (succ_not hidden) ∙ get_or-set_same first hidden (pos p.lo)
+        (pos 0) (in_first hidden shape.Address hidden_shapes.0)
 
     high_at : local_at next (hidden + 1) ≡ pos p.hi
     high_at = get_or-set_same second (hidden + 1) (pos p.hi) (pos 0) (in_second (hidden + 1) shape.Address hidden_shapes.1)
 
     others : (k : ℕ) → k ≢ slot → k ≢ hidden → k ≢ hidden + 1 → local_at next k ≡ local_at st k
-    others k a b c = get_or-set_other second (hidden + 1) k (pos p.hi) (pos 0) c ∙ get_or-set_other first hidden k (pos p.lo) (pos 0) b ∙ get_or-set_other st.locals slot k (pos p.value) (pos 0) a
+    others k a b c = get_or-set_other second (hidden + 1) k (pos p.hi) (pos 0) c ∙ get_or-set_other first hidden k (pos p.lo) (pos 0) b
+        ∙ get_or-set_other st.locals slot k (pos p.value) (pos 0) a
 
     pub stays : (k : ℕ) → IsPlainSlot ctx k → k ≢ slot → local_at next k ≡ local_at st k
     stays k plain n = others k n (plain_not k hidden plain hidden_shapes.0) (plain_not k (hidden + 1) plain hidden_shapes.1)
 
     apart_not : (g : ℕ) → (g + 1 < hidden) ⊎ (hidden + 1 < g) → (g ≢ hidden) × (g ≢ hidden + 1) × (g + 1 ≢ hidden) × (g + 1 ≢ hidden + 1)
-    apart_not g (inl l) = (λ e. absurd (omega (arith, l, e)), λ e. absurd (omega (arith, l, e)), λ e. absurd (omega (arith, l, e)), λ e. absurd (omega (arith, l, e)))
-    apart_not g (inr l) = (λ e. absurd (omega (arith, l, e)), λ e. absurd (omega (arith, l, e)), λ e. absurd (omega (arith, l, e)), λ e. absurd (omega (arith, l, e)))
+    apart_not g (inl l) = (
+      λ e. absurd (omega (arith, l, e)),
+      λ e. absurd (omega (arith, l, e)),
+      λ e. absurd (omega (arith, l, e)),
+      λ e.
+          absurd (omega (arith, l, e)),
+    )
+    apart_not g (inr l) = (
+      λ e. absurd (omega (arith, l, e)),
+      λ e. absurd (omega (arith, l, e)),
+      λ e. absurd (omega (arith, l, e)),
+      λ e.
+          absurd (omega (arith, l, e)),
+    )
 
-    hidden_stays : (k g : ℕ) → k ≢ slot → hidden_slot ctx.locals k ≡ Some g → (local_at next g ≡ local_at st g) × (local_at next (g + 1) ≡ local_at st (g + 1))
+    hidden_stays : (k g : ℕ) → k ≢ slot → hidden_slot ctx.locals k ≡ Some g → (local_at next g ≡ local_at st g)
+        × (local_at next (g + 1) ≡ local_at st (g + 1))
     hidden_stays k g n e =
         let both = slots.hidden k g e in
         let a = apart_not g (slots.apart k g slot hidden e hides n) in
@@ -202,7 +232,8 @@ module _ (f : CheckedFn) (ctx : Context) (blocks : List Block) (st : State) (goo
       at_word : (z : ℤ) (n : ℕ) → z ≡ pos n → n < 2 ^ 32 → IsTrue (is_word z)
       at_word z n e l = subst (λ (y : ℤ). IsTrue (is_word y)) (sym e) (lt-ltb n (2 ^ 32) l)
 
-      either : (P : ℤ → Type 0) (k : ℕ) → P (local_at next slot) → P (local_at next hidden) → P (local_at next (hidden + 1)) → (k ≢ slot → k ≢ hidden → k ≢ hidden + 1 → P (local_at next k)) → P (local_at next k)
+      either : (P : ℤ → Type 0) (k : ℕ) → P (local_at next slot) → P (local_at next hidden) → P (local_at next (hidden + 1))
+          → (k ≢ slot → k ≢ hidden → k ≢ hidden + 1 → P (local_at next k)) → P (local_at next k)
       either P k a b c d = by (slot == k) (hidden == k) (hidden + 1 == k) refl refl refl
         where
           by : (x y z : Bool) → (slot == k) ≡ x → (hidden == k) ≡ y → (hidden + 1 == k) ≡ z → P (local_at next k)
@@ -227,14 +258,20 @@ module _ (f : CheckedFn) (ctx : Context) (blocks : List Block) (st : State) (goo
         same = value_at;
         stays = stays;
         hidden_stays = hidden_stays;
-        words = λ k h. either (λ v. IsTrue (is_word v)) k value_word low_word high_word (λ a b c. subst (λ (v : ℤ). IsTrue (is_word v)) (sym (others k a b c)) (good.frame.holds k shape.Address h));
-        values = λ k. either (λ v. IsTrue (is_value v)) k (word_value (local_at next slot) value_word) (word_value (local_at next hidden) low_word) (word_value (local_at next (hidden + 1)) high_word)
-          (λ a b c. subst (λ (v : ℤ). IsTrue (is_value v)) (sym (others k a b c)) (good.frame.values k));
+        words = λ k h. either (λ v. IsTrue (is_word v)) k value_word low_word high_word (λ a b c. subst (λ (v : ℤ). IsTrue (is_word v))
+            (sym (others k a b c)) (good.frame.holds k shape.Address h));
+        values = λ k. either (λ v. IsTrue (is_value v)) k (word_value (local_at next slot) value_word) (word_value (local_at next hidden)
+            low_word) (word_value (local_at next (hidden + 1)) high_word)
+            (λ a b c. subst (λ (v : ℤ). IsTrue (is_value v)) (sym (others k a b c)) (good.frame.values k));
         long = λ k y h. subst (λ (n : ℕ). k < n) (sym (length-set second (hidden + 1) (pos p.hi))) (in_second k y h);
-        own = (value_word, subst (FitsHidden ctx blocks next slot elem) (sym hides)
-          (subst (λ (y : ℤ). Fits blocks ctx.table.elems ctx.table.structs elem false y (local_at next (hidden + 1)) (local_at next slot)) (sym low_at)
-          (subst (λ (y : ℤ). Fits blocks ctx.table.elems ctx.table.structs elem false (pos p.lo) y (local_at next slot)) (sym high_at)
-          (subst (λ (y : ℤ). Fits blocks ctx.table.elems ctx.table.structs elem false (pos p.lo) (pos p.hi) y) (sym value_at) fits))));
+        own = (
+          value_word,
+          subst (FitsHidden ctx blocks next slot elem) (sym hides)
+              (subst (λ (y : ℤ). Fits blocks ctx.table.elems ctx.table.structs elem false y (local_at next (hidden + 1))
+              (local_at next slot)) (sym low_at)
+              (subst (λ (y : ℤ). Fits blocks ctx.table.elems ctx.table.structs elem false (pos p.lo) y (local_at next slot)) (sym high_at)
+              (subst (λ (y : ℤ). Fits blocks ctx.table.elems ctx.table.structs elem false (pos p.lo) (pos p.hi) y) (sym value_at) fits))),
+        );
       }
 
   -- ---- the assignment
@@ -255,50 +292,71 @@ module _ (f : CheckedFn) (ctx : Context) (blocks : List Block) (st : State) (goo
     operand_safe : IsLightHanded h → Hands f ctx blocks st good types slots h elem false
         → Safe (operand [] f st taken) (λ p. (v : ℤ) × IsHanded f ctx blocks st types h elem false v × IsFat h elem v p)
     unfolding operand
-    operand_safe light d = safe_bind (eval [] f st h.form) _ _ _ d (λ v here. let r = fat_is h elem v light here in safe_same _ _ _ r.1.is (v, here, r.1))
+    operand_safe light d = safe_bind (eval [] f st h.form) _ _ _ d (λ v here. let r = fat_is h elem v light here in safe_same _ _ _ r.1.is
+        (v, here, r.1))
 
     pub assign_automatic_sound : Sound f st ctx.first (assign_automatic ctx slot h)
         (λ x. IsLightHanded h → Hands f ctx blocks st good types slots h elem false → Leaves f ctx blocks st good types slots x)
     unfolding assign_automatic slot_changes act
     assign_automatic_sound =
-        then_sound f st ctx.first _ _ (λ hidden. hidden_slot ctx.locals slot ≡ Some hidden) _ (lift_sound f st ctx.first (hidden_slot ctx.locals slot) _ (λ hidden e. e)) (λ hidden.
+        then_sound f st ctx.first _ _ (λ hidden. hidden_slot ctx.locals slot ≡ Some hidden) _ (lift_sound f st ctx.first
+        (hidden_slot ctx.locals slot) _ (λ hidden e. e)) (λ hidden.
         then_sound f st ctx.first _ _ _ _
-        (siblings_kept f ctx blocks st types of_slots (changed names.OfSlots slot h.at) slot (Unit {0}) (local_at st) (local_at (with_pointer st slot hidden fat)) 0 ctx.slots [])
+        (siblings_kept f ctx blocks st types of_slots (changed names.OfSlots slot h.at) slot (Unit {0}) (local_at st)
+        (local_at (with_pointer st slot hidden fat)) 0 ctx.slots [])
         (λ ids. pure_sound f st ctx.first (statement.AssignAutomatic ctx.line slot hidden taken ids) _ (λ kept hides light d.
-            safe_same _ _ _ (ap (act [] f st) (statement.outs-AssignAutomatic ctx.line slot hidden taken ids))
-            (safe_step (operand [] f st taken) _ _ _ (operand_safe light d) (λ p seen here.
-            let same : p ≡ fat = ap fat_or_null (sym seen) in
-            let known : IsFat h elem here.0 fat = subst (IsFat h elem here.0) same here.2 in
-            let next : State = with_pointer st slot hidden fat in
-            let has : HasValue st h.at (pos fat.value) = subst (HasValue st h.at) known.value here.1.at in
-            let there = pointer_next slot elem hidden is hides fat known.word known.low known.high known.fits in
-            safe_bind (tests [] f st ids) _ _ _
-            (kept (all_renamed f ctx blocks st good types slots slot next (pos fat.value) h.at pointer_once has there.same there.stays) (pass_none f st (Unit {0}) tt))
-            (λ u others'. safe_same (goes_on (with_pointer st slot hidden fat)) (goes_on (with_pointer st slot hidden p)) (λ a. IsGood ctx blocks a.state × (a.turn ≡ On)) (ap (λ (q : Fat). goes_on (with_pointer st slot hidden q)) same)
-                (frame_next f ctx blocks st good types slots slot next (pos fat.value) h.at pointer_once has there.same there.stays (shape.Pointer elem bounds.Hidden) is there others'.1, refl)))))))
+        safe_same _ _ _ (ap (act [] f st) (statement.outs-AssignAutomatic ctx.line slot hidden taken ids))
+        (safe_step (operand [] f st taken) _ _ _ (operand_safe light d) (λ p seen here.
+        let same : p ≡ fat = ap fat_or_null (sym seen) in
+        let known : IsFat h elem here.0 fat = subst (IsFat h elem here.0) same here.2 in
+        let next : State = with_pointer st slot hidden fat in
+        let has : HasValue st h.at (pos fat.value) = subst (HasValue st h.at) known.value here.1.at in
+        let there = pointer_next slot elem hidden is hides fat known.word known.low known.high known.fits in
+        safe_bind (tests [] f st ids) _ _ _
+        (kept (all_renamed f ctx blocks st good types slots slot next (pos fat.value) h.at pointer_once has there.same there.stays)
+        (pass_none f st (Unit {0}) tt))
+        (λ u others'. safe_same (goes_on (with_pointer st slot hidden fat)) (goes_on (with_pointer st slot hidden p))
+        (λ a. IsGood ctx blocks a.state × (a.turn ≡ On)) (ap (λ (q : Fat). goes_on (with_pointer st slot hidden q)) same) (
+          frame_next f ctx blocks st good types slots slot next (pos fat.value) h.at pointer_once has there.same there.stays
+              (shape.Pointer elem bounds.Hidden) is there others'.1,
+          refl,
+        )))))))
 
   -- ---- each assignment to a local
   pub assign_local_sound : (slot : ℕ) (x : Derived) (y : Shape) → slot_shape ctx slot ≡ Some y
-      → Sound f st ctx.first (assign_local ctx slot x y) (λ c. HandsLightly ctx x → IsDerived f ctx blocks st x → Leaves f ctx blocks st good types slots c)
+      → Sound f st ctx.first (assign_local ctx slot x y) (λ c. HandsLightly ctx x → IsDerived f ctx blocks st x → Leaves f ctx blocks st
+      good types slots c)
   unfolding assign_local assign_pointer
   assign_local_sound slot x (shape.Int s) is =
       then_sound f st ctx.first _ _ (λ w. integer_of ctx x ≡ Some w) _ (lift_sound f st ctx.first (integer_of ctx x) _ (λ w e. e)) (λ w.
-      weaker f st ctx.first _ _ _ (λ c q e light d. q (integer_sound f ctx blocks st good types slots x w e d)) (assign_integer_sound f ctx blocks st good types slots slot s is w))
+      weaker f st ctx.first _ _ _ (λ c q e light d. q (integer_sound f ctx blocks st good types slots x w e d)) (assign_integer_sound f ctx
+      blocks st good types slots slot s is w))
   assign_local_sound slot x (shape.Pointer elem bounds.Hidden) is =
-      then_sound f st ctx.first _ _ (λ key. element_at ctx.table elem ≡ Some key) _ (lift_sound f st ctx.first (element_at ctx.table elem) _ (λ key e. e)) (λ key.
-      then_sound f st ctx.first _ _ (λ h. handed ctx key false x ≡ Some h) _ (lift_sound f st ctx.first (handed ctx key false x) _ (λ h e. e)) (λ h.
-      weaker f st ctx.first _ _ _ (λ c q e k light d. q (light key false h e) (handed_sound f ctx blocks st good types slots key elem false x h k e d)) (assign_automatic_sound slot elem is h)))
+      then_sound f st ctx.first _ _ (λ key. element_at ctx.table elem ≡ Some key) _ (lift_sound f st ctx.first (element_at ctx.table elem)
+      _ (λ key e. e)) (λ key.
+      then_sound f st ctx.first _ _ (λ h. handed ctx key false x ≡ Some h) _ (lift_sound f st ctx.first (handed ctx key false x) _
+      (λ h e. e)) (λ h.
+      weaker f st ctx.first _ _ _ (λ c q e k light d. q (light key false h e) (handed_sound f ctx blocks st good types slots key elem false
+      x h k e d)) (assign_automatic_sound slot elem is h)))
   assign_local_sound slot x (shape.Pointer elem bounds.Nullterm) is =
-      then_sound f st ctx.first _ _ (λ key. element_at ctx.table elem ≡ Some key) _ (lift_sound f st ctx.first (element_at ctx.table elem) _ (λ key e. e)) (λ key.
-      then_sound f st ctx.first _ _ (λ h. handed ctx key true x ≡ Some h) _ (lift_sound f st ctx.first (handed ctx key true x) _ (λ h e. e)) (λ h.
-      weaker f st ctx.first _ _ _ (λ c q e k light d. q (handed_sound f ctx blocks st good types slots key elem true x h k e d)) (assign_text_sound f ctx blocks st good types slots slot elem key h is)))
+      then_sound f st ctx.first _ _ (λ key. element_at ctx.table elem ≡ Some key) _ (lift_sound f st ctx.first (element_at ctx.table elem)
+      _ (λ key e. e)) (λ key.
+      then_sound f st ctx.first _ _ (λ h. handed ctx key true x ≡ Some h) _ (lift_sound f st ctx.first (handed ctx key true x) _
+      (λ h e. e)) (λ h.
+      weaker f st ctx.first _ _ _ (λ c q e k light d. q (handed_sound f ctx blocks st good types slots key elem true x h k e d))
+      (assign_text_sound f ctx blocks st good types slots slot elem key h is)))
   assign_local_sound slot x (shape.Pointer elem (bounds.Within lo hi)) is =
-      then_sound f st ctx.first _ _ (λ key. element_at ctx.table elem ≡ Some key) _ (lift_sound f st ctx.first (element_at ctx.table elem) _ (λ key e. e)) (λ key.
-      then_sound f st ctx.first _ _ (λ h. handed ctx key false x ≡ Some h) _ (lift_sound f st ctx.first (handed ctx key false x) _ (λ h e. e)) (λ h.
-      weaker f st ctx.first _ _ _ (λ c q e k light d. q k (handed_sound f ctx blocks st good types slots key elem false x h k e d)) (bounded slot elem lo hi key h is)))
+      then_sound f st ctx.first _ _ (λ key. element_at ctx.table elem ≡ Some key) _ (lift_sound f st ctx.first (element_at ctx.table elem)
+      _ (λ key e. e)) (λ key.
+      then_sound f st ctx.first _ _ (λ h. handed ctx key false x ≡ Some h) _ (lift_sound f st ctx.first (handed ctx key false x) _
+      (λ h e. e)) (λ h.
+      weaker f st ctx.first _ _ _ (λ c q e k light d. q k (handed_sound f ctx blocks st good types slots key elem false x h k e d))
+      (bounded slot elem lo hi key h is)))
     where
-      bounded : (slot elem : ℕ) (lo hi : Edge) (key : Element) (h : Handed) → slot_shape ctx slot ≡ Some (shape.Pointer elem (bounds.Within lo hi))
-          → Sound f st ctx.first (assign_annotated ctx slot key (bounds.Within lo hi) h) (λ x. element_at ctx.table elem ≡ Some key → Hands f ctx blocks st good types slots h elem false → Leaves f ctx blocks st good types slots x)
+      bounded : (slot elem : ℕ) (lo hi : Edge) (key : Element) (h : Handed) → slot_shape ctx slot ≡ Some
+          (shape.Pointer elem (bounds.Within lo hi))
+          → Sound f st ctx.first (assign_annotated ctx slot key (bounds.Within lo hi) h) (λ x. element_at ctx.table elem ≡ Some key
+          → Hands f ctx blocks st good types slots h elem false → Leaves f ctx blocks st good types slots x)
       bounded slot elem lo hi key h is = assign_bounded_sound f ctx blocks st good types slots slot elem lo hi key h is
   assign_local_sound slot x (shape.Struct k) is = none_sound f st ctx.first _
   assign_local_sound slot x shape.Address is = none_sound f st ctx.first _

@@ -35,26 +35,35 @@ module _ (f : CheckedFn) (st : State) where
   cast_peeks s e z h = at-Unary Got (eval_level (λ _. Ok tt) st) Cast s e ∙ ap (λ (g : Got). g >>= λ x. Ok (converted s x)) h
 
   -- an integer that is converted to a type, in a check
-  pub converted_has : (s : Scalar) (w : Whole) (z : ℤ) → s ≢ Void → eval [] f st w.form ≡ Ok z → IsWhole st w z → HasValue st (sum_of (converted_side s w)) (converted s z)
+  pub converted_has : (s : Scalar) (w : Whole) (z : ℤ) → s ≢ Void → eval [] f st w.form ≡ Ok z → IsWhole st w z
+      → HasValue st (sum_of (converted_side s w)) (converted s z)
   unfolding converted_side side
   converted_has s w z n h is = by (constant_of w.written) refl
     where
       seen : peek st w.form ≡ Ok z
       seen = eval_peek [] f st w.form z h
+
       word : IsTrue (is_value (converted s z))
       word = of_value s (converted s z) (converted_of s z n)
-      plain : (b : Bool) → has_all s w.scalar ≡ b → HasValue st (sum_of (if b then atom_part w.form else cast_part s w.form)) (converted s z)
+
+      plain : (b : Bool) → has_all s w.scalar ≡ b → HasValue st (sum_of (if b then atom_part w.form else cast_part s w.form))
+          (converted s z)
       plain true e =
           let same = converted_same s z (wider s w.scalar z e is.range) in
-          subst (λ (x : ℤ). HasValue st (sum_of (atom_part w.form)) x) (sym same) (has_part st (atom_part w.form) z (atom_reads st w.form z seen (of_value w.scalar z is.range)) (atom_is st w.form z seen))
-      plain false e = has_part st (cast_part s w.form) (converted s z) (atom_reads st (form.Unary Cast s w.form) (converted s z) (cast_peeks s w.form z seen) word) (atom_is st (form.Unary Cast s w.form) (converted s z) (cast_peeks s w.form z seen))
+          subst (λ (x : ℤ). HasValue st (sum_of (atom_part w.form)) x) (sym same) (has_part st (atom_part w.form) z
+          (atom_reads st w.form z seen (of_value w.scalar z is.range)) (atom_is st w.form z seen))
+      plain false e = has_part st (cast_part s w.form) (converted s z) (atom_reads st (form.Unary Cast s w.form) (converted s z)
+          (cast_peeks s w.form z seen) word) (atom_is st (form.Unary Cast s w.form) (converted s z) (cast_peeks s w.form z seen))
+
       number : (c : ℤ) → part_at st (side_by (Some c) w.form) ≡ z → c ≡ z
       number c e = omega (arith, ints, *ℤ_comm (pos 1) c, e)
+
       by : (o : Option ℤ) → constant_of w.written ≡ o → HasValue st (sum_of (converted_by o s w)) (converted s z)
       by None e = plain (has_all s w.scalar) refl
       by (Some c) e =
           let same : c ≡ z = number c (subst (λ (o : Option ℤ). part_at st (side_by o w.form) ≡ z) e is.is) in
-          has_part st (constant_part (converted s c)) (converted s z) tt (omega (arith, ints, *ℤ_comm (pos 1) (converted s c)) ∙ ap (converted s) same)
+          has_part st (constant_part (converted s c)) (converted s z) tt (omega (arith, ints, *ℤ_comm (pos 1) (converted s c))
+          ∙ ap (converted s) same)
 
   once_by : (o : Option ℤ) (s : Scalar) (w : Whole) → IsOnce (converted_by o s w)
   once_by (Some c) s w = refl

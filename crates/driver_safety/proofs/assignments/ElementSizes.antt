@@ -7,5 +7,7 @@ use Rattle.deputy_types.specs.Fitting.{elem_bytes, shape_size}
 use Rattle.deputy_types.specs.Table.{Table, element_at}
 use Rattle.driver_safety.specs.TypeFacts.{HasTypes}
 
-pub element_size : (t : Table) → HasTypes t → (n : ℕ) (key : Element) → element_at t n ≡ Some key → elem_bytes t.elems t.structs n ≡ (key_extent t.extents key).bytes
-element_size t types n key is = ap (λ (o : Option Shape). unwrap_or (option_map (shape_size t.structs) o) 0) (types.elements n key is).0 ∙ types.bytes key
+pub element_size : (t : Table) → HasTypes t → (n : ℕ) (key : Element) → element_at t n ≡ Some key → elem_bytes t.elems t.structs n ≡
+    (key_extent t.extents key).bytes
+element_size t types n key is = ap (λ (o : Option Shape). unwrap_or (option_map (shape_size t.structs) o) 0) (types.elements n key is).0
+    ∙ types.bytes key

@@ -67,7 +67,8 @@ element_is (element.Struct a) (element.Struct b) h = ap (λ (n : ℕ). element.S
 element_is (element.Sentinel a) (element.Sentinel b) h = ap (λ (n : ℕ). element.Sentinel n) ((Decides-eqb a b).0 h)
 element_is (element.Nullterm a) (element.Nullterm b) h = ap (λ (n : ℕ). element.Nullterm n) ((Decides-eqb a b).0 h)
 element_is (element.Count a m) (element.Count b n) h =
-    ap (λ (k : ℕ). element.Count k m) ((Decides-eqb a b).0 (both_first (a == b) (int_eq m n) h)) ∙ ap (λ (z : ℤ). element.Count b z) ((Decides-int_eq m n).0 (both_second (a == b) (int_eq m n) h))
+    ap (λ (k : ℕ). element.Count k m) ((Decides-eqb a b).0 (both_first (a == b) (int_eq m n) h)) ∙ ap (λ (z : ℤ). element.Count b z)
+    ((Decides-int_eq m n).0 (both_second (a == b) (int_eq m n) h))
 element_is _ _ h = absurd cc
 
 some_same : {A : Type 0} (a b : A) → ◌≡◌ {A = Option A} (Some a) (Some b) → a ≡ b
@@ -77,7 +78,8 @@ if_is : {A : Type 0} (b : Bool) (x a : A) → (if b then Some x else None) ≡ S
 if_is true x a h = (refl, some_same x a h)
 if_is false x a h = absurd cc
 
-module _ (f : CheckedFn) (ctx : Context) (blocks : List Block) (st : State) (good : IsGood ctx blocks st) (types : HasTypes ctx.table) (slots : HasSlots ctx) where
+module _ (f : CheckedFn) (ctx : Context) (blocks : List Block) (st : State) (good : IsGood ctx blocks st) (types : HasTypes ctx.table)
+    (slots : HasSlots ctx) where
   abbrev pub Hands : Handed → ℕ → Bool → Type 0
   Hands h elem nullterm = Safe (eval [] f st h.form) (IsHanded f ctx blocks st types h elem nullterm)
 
@@ -93,7 +95,8 @@ module _ (f : CheckedFn) (ctx : Context) (blocks : List Block) (st : State) (goo
     fits = null refl;
   })
 
-  pointer_hands : (p : Pointed) (key : Element) (elem : ℕ) (nullterm : Bool) → element_at ctx.table elem ≡ Some key → p.elem ≡ key → p.nullterm ≡ nullterm
+  pointer_hands : (p : Pointed) (key : Element) (elem : ℕ) (nullterm : Bool) → element_at ctx.table elem ≡ Some key → p.elem ≡ key
+      → p.nullterm ≡ nullterm
       → IsValue f ctx blocks st (value.Pointer p) → Hands (handed_over p) elem nullterm
   pointer_hands p key elem nullterm is same text d = safe_weaker (eval [] f st p.form) _ _ d (λ v e here. record {
     word = here.word;
@@ -105,22 +108,27 @@ module _ (f : CheckedFn) (ctx : Context) (blocks : List Block) (st : State) (goo
     none = λ g. absurd cc;
     fits = fits blocks ctx.table.elems ctx.table.structs elem (key_shape ctx.table p.elem)
         ((types.elements elem key is).0 ∙ ap (λ (k : Element). Some (key_shape ctx.table k)) (sym same)) nullterm here.lo here.hi v
-        (subst (λ (b : Bool). Reaches blocks ctx.table.elems ctx.table.structs (key_shape ctx.table p.elem) b here.lo here.hi v) text here.fits);
+        (subst (λ (b : Bool). Reaches blocks ctx.table.elems ctx.table.structs (key_shape ctx.table p.elem) b here.lo here.hi v) text
+        here.fits);
   })
 
-  value_hands : (key : Element) (elem : ℕ) (nullterm : Bool) (v : Value) (h : Handed) → element_at ctx.table elem ≡ Some key → handed_value key nullterm v ≡ Some h
+  value_hands : (key : Element) (elem : ℕ) (nullterm : Bool) (v : Value) (h : Handed) → element_at ctx.table elem ≡ Some key
+      → handed_value key nullterm v ≡ Some h
       → IsValue f ctx blocks st v → Hands h elem nullterm
   unfolding handed_value
-  value_hands key elem nullterm value.Null h is e d = subst (λ (x : Handed). Hands x elem nullterm) (some_same null_handed h e) (null_hands elem nullterm)
+  value_hands key elem nullterm value.Null h is e d = subst (λ (x : Handed). Hands x elem nullterm) (some_same null_handed h e)
+      (null_hands elem nullterm)
   value_hands key elem nullterm (value.Int w) h is e d =
       subst (λ (x : Handed). Hands x elem nullterm) (if_is (is_written 0 w.written) null_handed h e).1 (null_hands elem nullterm)
   value_hands key elem nullterm (value.Pointer p) h is e d =
       let r = if_is (same_element p.elem key && same_truth p.nullterm nullterm) (handed_over p) h e in
       subst (λ (x : Handed). Hands x elem nullterm) r.1
-      (pointer_hands p key elem nullterm is (element_is p.elem key (both_first (same_element p.elem key) (same_truth p.nullterm nullterm) r.0))
-        (truth_is p.nullterm nullterm (both_second (same_element p.elem key) (same_truth p.nullterm nullterm) r.0)) d)
+      (pointer_hands p key elem nullterm is (element_is p.elem key (both_first (same_element p.elem key) (same_truth p.nullterm nullterm)
+      r.0))
+      (truth_is p.nullterm nullterm (both_second (same_element p.elem key) (same_truth p.nullterm nullterm) r.0)) d)
 
-  pub handed_sound : (key : Element) (elem : ℕ) (nullterm : Bool) (d : Derived) (h : Handed) → element_at ctx.table elem ≡ Some key → handed ctx key nullterm d ≡ Some h
+  pub handed_sound : (key : Element) (elem : ℕ) (nullterm : Bool) (d : Derived) (h : Handed) → element_at ctx.table elem ≡ Some key
+      → handed ctx key nullterm d ≡ Some h
       → IsDerived f ctx blocks st d → Hands h elem nullterm
   handed_sound key elem nullterm d h is e known =
       let v = some_then (value_of ctx d) (λ v. handed_value key nullterm v) h e in

@@ -1,4 +1,5 @@
--- The bounds of a pointer that a statement takes with it: sums that stay below the machine's limit have the values that they have where nothing is limited.
+-- The bounds of a pointer that a statement takes with it: sums that stay below the machine's limit have the values that they have where
+-- nothing is limited.
 use Rattle.std.proofs.Common.{◌≡◌, ℕ, ◌+◌, ◌*◌, ◌^◌, ◌<◌, ◌≤◌, IsTrue, List, [], ◌∷◌, ℤ, pos, negsuc, ◌+ℤ◌, ◌*ℤ◌, unsigned_abs, Ok, refl, sym, ap, subst, ◌∙◌, arith}
 use Rattle.std.proofs.lemmas.Int.{ints, unsigned_abs-mul}
 use Rattle.std.proofs.lemmas.Nat.{mul-le}
@@ -31,10 +32,16 @@ module _ (st : State) where
       record {
         is = ap (λ (g : Got). g >>= λ v. Ok (times *ℤ v)) h.1 ∙ ap (λ (z : ℤ). Ok z) (sym same);
         size = subst (λ (z : ℤ). unsigned_abs z ≤ reach (Atom times atom)) (sym same)
-            (omega (arith, unsigned_abs-mul times h.0, mul-le (unsigned_abs times) (unsigned_abs h.0) (unsigned_abs times) (2 ^ 32) (omega arith) (word_size h.0 h.2)));
+            (omega (
+              arith,
+              unsigned_abs-mul times h.0,
+              mul-le (unsigned_abs times) (unsigned_abs h.0) (unsigned_abs times) (2 ^ 32)
+                  (omega arith) (word_size h.0 h.2),
+            ));
       }
 
-  parts_are : (ps : List Part) (sum : ℤ) → unsigned_abs sum + reach_of ps < sum_limit → HaveValues st ps → parts_from st ps sum ≡ Ok (sum +ℤ parts_at st ps)
+  parts_are : (ps : List Part) (sum : ℤ) → unsigned_abs sum + reach_of ps < sum_limit → HaveValues st ps → parts_from st ps sum ≡ Ok
+      (sum +ℤ parts_at st ps)
   unfolding parts_at
   parts_are [] sum l h = ap (λ (z : ℤ). Ok z) (none sum)
     where

@@ -62,7 +62,8 @@ use Rattle.driver_safety.proofs.memory.Writes.{low_small, element_from, KeepsBlo
 some_same : {A : Type 0} (a b : A) → ◌≡◌ {A = Option A} (Some a) (Some b) → a ≡ b
 some_same a b h = cc
 
-module _ (f : CheckedFn) (ctx : Context) (blocks : List Block) (st : State) (good : IsGood ctx blocks st) (types : HasTypes ctx.table) (slots : HasSlots ctx)
+module _ (f : CheckedFn) (ctx : Context) (blocks : List Block) (st : State) (good : IsGood ctx blocks st) (types : HasTypes ctx.table)
+    (slots : HasSlots ctx)
     (place : CheckedExpr) (s k : ℕ) (w : Member) (found : member ctx.table s k ≡ Some w) where
   -- the struct of the member, as the table has it
   abbrev pub structure : (u : StructShape) × (slice_get ctx.table.structs s ≡ Some u) × (slice_get u.members k ≡ Some w)
@@ -87,18 +88,20 @@ module _ (f : CheckedFn) (ctx : Context) (blocks : List Block) (st : State) (goo
   is_here a at =
       let at_base : at.struct_at ≡ base = sym (ap (λ (g : Got). place_of (got_or_zero g)) at.struct_is) in
       let same_struct : at.structure ≡ known = some_same at.structure known (sym at.structure_is ∙ structure.1) in
-      let same_member : at.member ≡ w = some_same at.member w (sym at.member_is ∙ ap (λ (u : StructShape). slice_get u.members k) same_struct ∙ structure.2) in
+      let same_member : at.member ≡ w = some_same at.member w (sym at.member_is ∙ ap (λ (u : StructShape). slice_get u.members k)
+      same_struct ∙ structure.2) in
       record {
         struct_is = at.struct_is ∙ ap (λ (n : ℕ). Ok (pos n)) at_base;
         lies = subst (λ (n : ℕ). IsStructAt ctx blocks s n) at_base at.lies;
         one = subst (λ (m : Member). m.count ≡ 1) same_member at.one;
         used = subst (λ (m : Member). is_used st.memory.bytes base known m.arm ≡ true) same_member
-          (subst (λ (u : StructShape). is_used st.memory.bytes base u at.member.arm ≡ true) same_struct
+            (subst (λ (u : StructShape). is_used st.memory.bytes base u at.member.arm ≡ true) same_struct
             (subst (λ (n : ℕ). is_used st.memory.bytes n at.structure at.member.arm ≡ true) at_base at.used));
         at = at.at ∙ ap (λ (n : ℕ). n + at.member.offset) at_base ∙ ap (λ (m : Member). base + m.offset) same_member;
       }
 
-  module _ (a : ℕ) (here : IsHere a) (scalar : Scalar) (leaf : IsLeaf w.shape) (size : scalar_size scalar ≡ shape_size ctx.table.structs w.shape) (v : ℤ) where
+  module _ (a : ℕ) (here : IsHere a) (scalar : Scalar) (leaf : IsLeaf w.shape) (size : scalar_size scalar ≡ shape_size ctx.table.structs
+      w.shape) (v : ℤ) where
     abbrev pub block : IsBlock ctx.table blocks st.memory here.lies.block
     block = struct_block f ctx blocks st good types s base here.lies
 
@@ -128,8 +131,10 @@ module _ (f : CheckedFn) (ctx : Context) (blocks : List Block) (st : State) (goo
         let width = block.size in
         let there = block.there in
         let l = open_place.within in
-        let more : (open_place.place + 1) * here.lies.block.layout.size ≤ here.lies.block.layout.size * here.lies.block.count = grind arith in
-        let next : (open_place.place + 1) * here.lies.block.layout.size ≡ open_place.place * here.lies.block.layout.size + here.lies.block.layout.size = grind arith in
+        let more : (open_place.place + 1) * here.lies.block.layout.size ≤ here.lies.block.layout.size * here.lies.block.count = grind arith
+        in
+        let next : (open_place.place + 1) * here.lies.block.layout.size ≡ open_place.place * here.lies.block.layout.size +
+        here.lies.block.layout.size = grind arith in
         omega (arith, bytes, width, more, next, there)
 
     abbrev pub fit : BytesFit blocks ctx.table.elems ctx.table.structs st.memory.bytes at block.shape
@@ -140,13 +145,17 @@ module _ (f : CheckedFn) (ctx : Context) (blocks : List Block) (st : State) (goo
     after = overwritten st.memory.bytes (base + w.offset + 0 * shape_size ctx.table.structs w.shape) new
 
     abbrev pub Keeps : Type 0
-    Keeps = KeepsStruct ctx.table types blocks st.memory.bytes new at block.shape inside fit base s k known w part structure.1 structure.2 here.one here.used leaf fills
+    Keeps = KeepsStruct ctx.table types blocks st.memory.bytes new at block.shape inside fit base s k known w part structure.1 structure.2
+        here.one here.used leaf fills
 
-    pub member_stays : (i : ℕ) (m : Member) → slice_get known.members i ≡ Some m → m.arm ≡ None → i ≢ k → member_value after base known i ≡ member_value st.memory.bytes base known i
-    member_stays i m is free n = stays_plain ctx.table types blocks st.memory.bytes new at block.shape inside fit base s k known w part structure.1 structure.2 here.one here.used leaf fills i m is free n
+    pub member_stays : (i : ℕ) (m : Member) → slice_get known.members i ≡ Some m → m.arm ≡ None → i ≢ k → member_value after base known i ≡
+        member_value st.memory.bytes base known i
+    member_stays i m is free n = stays_plain ctx.table types blocks st.memory.bytes new at block.shape inside fit base s k known w part
+        structure.1 structure.2 here.one here.used leaf fills i m is free n
 
     within : IsWithin here.lies.block (base + w.offset) (shape_size ctx.table.structs w.shape)
-    within = let one = here.one in member_within ctx.table types blocks st.memory here.lies.block block s base open_place known structure.1 k w structure.2 (omega (arith, one))
+    within = let one = here.one in member_within ctx.table types blocks st.memory here.lies.block block s base open_place known structure.1
+        k w structure.2 (omega (arith, one))
 
     first : base + w.offset + 0 * shape_size ctx.table.structs w.shape ≡ base + w.offset
     first = plus_zero (base + w.offset) (shape_size ctx.table.structs w.shape)
@@ -160,8 +169,10 @@ module _ (f : CheckedFn) (ctx : Context) (blocks : List Block) (st : State) (goo
     memory_after : Keeps → IsMemory ctx.table blocks next_memory
     memory_after keeps =
         let lies = lies_in ctx.table.structs at block.shape base (shape.Struct s) types.tidy.nested part in
-        let fits' = member_written ctx.table types blocks st.memory.bytes new at block.shape inside fit base s k known w part structure.1 structure.2 here.one here.used leaf fills keeps in
-        let fits = subst (λ (n : ℕ). BytesFit blocks ctx.table.elems ctx.table.structs (overwritten st.memory.bytes n new) at block.shape) first fits' in
+        let fits' = member_written ctx.table types blocks st.memory.bytes new at block.shape inside fit base s k known w part structure.1
+        structure.2 here.one here.used leaf fills keeps in
+        let fits = subst (λ (n : ℕ). BytesFit blocks ctx.table.elems ctx.table.structs (overwritten st.memory.bytes n new) at block.shape)
+        first fits' in
         let from = within.from in
         let to = within.to in
         let few = low_small (scalar_size scalar) (low_bits 32 v) in
@@ -169,29 +180,38 @@ module _ (f : CheckedFn) (ctx : Context) (blocks : List Block) (st : State) (goo
         let low = lies.from in
         let high = lies.to in
         let to_in : base + w.offset + length new ≤ block_end here.lies.block = omega (arith, to, fills) in
-        memory_next ctx.table types blocks st.memory good.memory here.lies.block here.lies.granted (base + w.offset) new few from to_in (record {
-          fit = one_element ctx.table types blocks st.memory good.memory here.lies.block here.lies.granted (base + w.offset) new few from to_in open_place.place open_place.within
-            (omega (arith, low)) (omega (arith, high, in_struct, fills)) fits;
+        memory_next ctx.table types blocks st.memory good.memory here.lies.block here.lies.granted (base + w.offset) new few from to_in
+        (record {
+          fit = one_element ctx.table types blocks st.memory good.memory here.lies.block here.lies.granted (base + w.offset) new few from
+              to_in open_place.place open_place.within
+              (omega (arith, low)) (omega (arith, high, in_struct, fills)) fits;
           ends = λ text. absurd (true≢false (sym text ∙ here.lies.no_text));
         })
       where
         known_size : shape_size ctx.table.structs (shape.Struct s) ≡ known.size
         known_size = ap (λ (o : Option StructShape). unwrap_or (option_map (λ (t : StructShape). t.size) o) 0) structure.1
+
         member_end : w.offset + shape_size ctx.table.structs w.shape ≤ shape_size ctx.table.structs (shape.Struct s)
         member_end =
             let one = here.one in
             let room : w.offset + w.count * shape_size ctx.table.structs w.shape ≤ known.size =
-            subst (λ (x : Member). x.offset + x.count * shape_size ctx.table.structs x.shape ≤ known.size) (get_or_from_slice_get known.members k w w structure.2)
-              (types.tidy.nested s known structure.1 k w (slice_get_within known.members k w structure.2)) in
-            let count : w.count * shape_size ctx.table.structs w.shape ≡ 1 * shape_size ctx.table.structs w.shape = ap (λ (n : ℕ). n * shape_size ctx.table.structs w.shape) here.one in
+            subst (λ (x : Member). x.offset + x.count * shape_size ctx.table.structs x.shape ≤ known.size)
+            (get_or_from_slice_get known.members k w w structure.2)
+            (types.tidy.nested s known structure.1 k w (slice_get_within known.members k w structure.2)) in
+            let count : w.count * shape_size ctx.table.structs w.shape ≡ 1 * shape_size ctx.table.structs w.shape = ap
+            (λ (n : ℕ). n * shape_size ctx.table.structs w.shape) here.one in
             omega (arith, room, count, known_size)
 
     -- the store, behind the checks
     pub member_stored : Keeps → Safe (store st.memory scalar (pos a) v >>= remembers st) (λ x. IsGood ctx blocks x.state × (x.turn ≡ On))
     member_stored keeps =
-        let below = below_block ctx.table types blocks st.memory here.lies.block block (base + w.offset) (shape_size ctx.table.structs w.shape) within in
-        let is = store_is st.memory scalar (base + w.offset) v (omega (arith, below)) (subst (λ (n : ℕ). IsTrue (is_inside st.memory (base + w.offset) n)) (sym size)
-            (inside_block ctx.table types blocks st.memory here.lies.block block (base + w.offset) (shape_size ctx.table.structs w.shape) within)) in
-        safe_same (remembers st next_memory) (store st.memory scalar (pos a) v >>= remembers st) (λ x. IsGood ctx blocks x.state × (x.turn ≡ On))
+        let below = below_block ctx.table types blocks st.memory here.lies.block block (base + w.offset) (shape_size ctx.table.structs
+        w.shape) within in
+        let is = store_is st.memory scalar (base + w.offset) v (omega (arith, below))
+        (subst (λ (n : ℕ). IsTrue (is_inside st.memory (base + w.offset) n)) (sym size)
+        (inside_block ctx.table types blocks st.memory here.lies.block block (base + w.offset) (shape_size ctx.table.structs w.shape)
+        within)) in
+        safe_same (remembers st next_memory) (store st.memory scalar (pos a) v >>= remembers st) (λ x. IsGood ctx blocks x.state
+        × (x.turn ≡ On))
         (ap (λ (n : ℕ). store st.memory scalar (pos n) v >>= remembers st) here.at ∙ ap (λ (r : Outcome Memory). r >>= remembers st) is)
         (with_memory f ctx blocks st good types slots next_memory (memory_after keeps), refl)

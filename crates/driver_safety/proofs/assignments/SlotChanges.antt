@@ -1,4 +1,5 @@
--- A slot with a new value: where its own pointers and those of its siblings fit then, the frame is good. What the checks of kind Change ask for is what the siblings need.
+-- A slot with a new value: where its own pointers and those of its siblings fit then, the frame is good. What the checks of kind Change ask
+-- for is what the siblings need.
 use Rattle.std.proofs.Common.{◌≡◌, ◌≢◌, ◌⊎◌, inl, inr, ℕ, zero, suc, ◌+◌, ◌<◌, ◌==◌, IsTrue, Bool, true, false, List, [], ◌∷◌, All, length, ℤ, pos, Option, Some, None, slice_get, if◌then◌else◌, refl, sym, ap, ◌∙◌, subst, true≢false, arith}
 use Rattle.std.specs.Option.{option_flatten}
 use Rattle.std.proofs.lemmas.Bool.Decides.{Decides-eqb}
@@ -42,7 +43,8 @@ IsPlainSlot ctx k = (x : Shape) × (slot_shape ctx k ≡ Some x) × (x ≢ shape
 number_plain : (x : Shape) → IsNumber x → x ≢ shape.Address
 number_plain x n e = subst IsNumber e n
 
-module _ (f : CheckedFn) (ctx : Context) (blocks : List Block) (st : State) (good : IsGood ctx blocks st) (types : HasTypes ctx.table) (slots : HasSlots ctx) where
+module _ (f : CheckedFn) (ctx : Context) (blocks : List Block) (st : State) (good : IsGood ctx blocks st) (types : HasTypes ctx.table)
+    (slots : HasSlots ctx) where
   -- ---- the names as they are
   pub name_has : (k : ℕ) → HasValue st (name_sum ctx of_slots k) (local_at st k)
   unfolding name_sum named_sum
@@ -68,13 +70,15 @@ module _ (f : CheckedFn) (ctx : Context) (blocks : List Block) (st : State) (goo
     pub memory : next.memory ≡ st.memory
     pub same : local_at next slot ≡ z
     pub stays : (k : ℕ) → IsPlainSlot ctx k → k ≢ slot → local_at next k ≡ local_at st k
-    pub hidden_stays : (k h : ℕ) → k ≢ slot → hidden_slot ctx.locals k ≡ Some h → (local_at next h ≡ local_at st h) × (local_at next (h + 1) ≡ local_at st (h + 1))
+    pub hidden_stays : (k h : ℕ) → k ≢ slot → hidden_slot ctx.locals k ≡ Some h → (local_at next h ≡ local_at st h)
+        × (local_at next (h + 1) ≡ local_at st (h + 1))
     pub words : (k : ℕ) → slot_shape ctx k ≡ Some shape.Address → IsTrue (is_word (local_at next k))
     pub values : (k : ℕ) → IsTrue (is_value (local_at next k))
     pub long : (k : ℕ) (y : Shape) → slot_shape ctx k ≡ Some y → k < length next.locals
     pub own : SlotHolds ctx blocks next slot x
 
-  module _ (slot : ℕ) (next : State) (z : ℤ) (new : Sum) (once : (s : Scalar) → slot_shape ctx slot ≡ Some (shape.Int s) → AreOnce new.parts) (has : HasValue st new z) (same : local_at next slot ≡ z)
+  module _ (slot : ℕ) (next : State) (z : ℤ) (new : Sum) (once : (s : Scalar) → slot_shape ctx slot ≡ Some (shape.Int s)
+      → AreOnce new.parts) (has : HasValue st new z) (same : local_at next slot ≡ z)
       (stays : (k : ℕ) → IsPlainSlot ctx k → k ≢ slot → local_at next k ≡ local_at st k) where
     abbrev changes : Naming
     changes = changed names.OfSlots slot new
@@ -84,7 +88,8 @@ module _ (f : CheckedFn) (ctx : Context) (blocks : List Block) (st : State) (goo
 
     new_or : (k : ℕ) → IsNamedSlot ctx k → (b : Bool) → (slot == k) ≡ b → HasValue st (if b then new else slot_sum k) (local_at next k)
     new_or k is true e = subst (λ (v : ℤ). HasValue st new v) (sym (ap (local_at next) (sym ((Decides-eqb slot k).0 e)) ∙ same)) has
-    new_or k is false e = subst (λ (v : ℤ). HasValue st (slot_sum k) v) (sym (stays k (plain k is) (eqb_not slot k e))) (slot_has f ctx blocks st good types k)
+    new_or k is false e = subst (λ (v : ℤ). HasValue st (slot_sum k) v) (sym (stays k (plain k is) (eqb_not slot k e)))
+        (slot_has f ctx blocks st good types k)
 
     new_has : (k : ℕ) → IsNamedSlot ctx k → HasValue st (name_sum ctx changes k) (local_at next k)
     unfolding name_sum named_sum
@@ -98,10 +103,14 @@ module _ (f : CheckedFn) (ctx : Context) (blocks : List Block) (st : State) (goo
     unfolding name_sum named_sum
     new_once k is = once_or k is (slot == k) refl
 
-    new_terms : (ts : List (ℤ × ℕ)) → All (λ x. IsNamedSlot ctx x.1) ts → All (λ x. IsIntegerSlot ctx x.1) ts → TermsHave st ctx changes (local_at next) ts
+    new_terms : (ts : List (ℤ × ℕ)) → All (λ x. IsNamedSlot ctx x.1) ts → All (λ x. IsIntegerSlot ctx x.1) ts → TermsHave st ctx changes
+        (local_at next) ts
     new_terms [] all whole = tt
-    new_terms (t ∷ ts) all whole = (new_has t.1 (All-head (λ x. IsNamedSlot ctx x.1) t ts all), new_once t.1 (All-head (λ x. IsIntegerSlot ctx x.1) t ts whole),
-        new_terms ts (All-tail (λ x. IsNamedSlot ctx x.1) t ts all) (All-tail (λ x. IsIntegerSlot ctx x.1) t ts whole))
+    new_terms (t ∷ ts) all whole = (
+      new_has t.1 (All-head (λ x. IsNamedSlot ctx x.1) t ts all),
+      new_once t.1 (All-head (λ x. IsIntegerSlot ctx x.1) t ts whole),
+      new_terms ts (All-tail (λ x. IsNamedSlot ctx x.1) t ts all) (All-tail (λ x. IsIntegerSlot ctx x.1) t ts whole),
+    )
 
     new_base : (b : Option ℕ) → IsBaseSlot ctx b → BaseHas st ctx changes (local_at next) b
     new_base None is = tt
@@ -112,7 +121,11 @@ module _ (f : CheckedFn) (ctx : Context) (blocks : List Block) (st : State) (goo
 
     terms_agree : (ts : List (ℤ × ℕ)) → All (λ x. IsNamedSlot ctx x.1) ts → TermsAgree slot (local_at st) (local_at next) ts
     terms_agree [] all = tt
-    terms_agree (t ∷ ts) all = (stays t.1 (plain t.1 (All-head (λ x. IsNamedSlot ctx x.1) t ts all)), terms_agree ts (All-tail (λ x. IsNamedSlot ctx x.1) t ts all))
+    terms_agree (t ∷ ts) all = (
+      stays t.1 (plain t.1 (All-head (λ x. IsNamedSlot ctx x.1) t ts all)),
+      terms_agree ts
+          (All-tail (λ x. IsNamedSlot ctx x.1) t ts all),
+    )
 
     base_agrees : (b : Option ℕ) → IsBaseSlot ctx b → BaseAgrees slot (local_at st) (local_at next) b
     base_agrees None is = tt
@@ -121,7 +134,8 @@ module _ (f : CheckedFn) (ctx : Context) (blocks : List Block) (st : State) (goo
     flat_shape : (i : ℕ) (x : Shape) → slice_get ctx.slots i ≡ Some (Some x) → slot_shape ctx i ≡ Some x
     flat_shape i x h = ap option_flatten h
 
-    shape_renamed : (i : ℕ) (x : Option Shape) → slice_get ctx.slots i ≡ Some x → ShapeRenames f ctx blocks st types of_slots changes slot (local_at st) (local_at next) i x
+    shape_renamed : (i : ℕ) (x : Option Shape) → slice_get ctx.slots i ≡ Some x → ShapeRenames f ctx blocks st types of_slots changes slot
+        (local_at st) (local_at next) i x
     shape_renamed i None h = tt
     shape_renamed i (Some (shape.Int t)) h = tt
     shape_renamed i (Some (shape.Struct n)) h = tt
@@ -130,25 +144,31 @@ module _ (f : CheckedFn) (ctx : Context) (blocks : List Block) (st : State) (goo
     shape_renamed i (Some (shape.Pointer elem bounds.Nullterm)) h = tt
     shape_renamed i (Some (shape.Pointer elem (bounds.Within lo hi))) h =
         let is = flat_shape i (shape.Pointer elem (bounds.Within lo hi)) h in
-        let n = slots.names i elem lo hi is in
-        (record {
+        let n = slots.names i elem lo hi is in (
+          record {
             low_same = (base_agrees lo.base n.0.base, terms_agree lo.terms n.0.terms);
             high_same = (base_agrees hi.base n.1.base, terms_agree hi.terms n.1.terms);
             low = slots_have lo;
             high = slots_have hi;
             lower = new_names lo n.0;
             higher = new_names hi n.1;
-          }, name_has i, stays i (shape.Pointer elem (bounds.Within lo hi), is, λ e. absurd cc))
+          },
+          name_has i,
+          stays i (shape.Pointer elem (bounds.Within lo hi), is, λ e. absurd cc),
+        )
 
     abbrev AreBehind : ℕ → List (Option Shape) → Type 0
     AreBehind i ss = (k : ℕ) (x : Option Shape) → slice_get ss k ≡ Some x → slice_get ctx.slots (i + k) ≡ Some x
 
-    each_renamed : (i : ℕ) (ss : List (Option Shape)) → AreBehind i ss → AllRenamed f ctx blocks st types of_slots changes slot (local_at st) (local_at next) i ss
+    each_renamed : (i : ℕ) (ss : List (Option Shape)) → AreBehind i ss → AllRenamed f ctx blocks st types of_slots changes slot
+        (local_at st) (local_at next) i ss
     each_renamed i [] at = tt
     each_renamed i (x ∷ ss) at =
-        let here : i + 0 ≡ i = omega arith in
-        (shape_renamed i x (subst (λ (m : ℕ). slice_get ctx.slots m ≡ Some x) here (at 0 x refl)),
-          each_renamed (i + 1) ss (λ k y h. let there : i + suc k ≡ i + 1 + k = omega arith in subst (λ (m : ℕ). slice_get ctx.slots m ≡ Some y) there (at (suc k) y h)))
+        let here : i + 0 ≡ i = omega arith in (
+          shape_renamed i x (subst (λ (m : ℕ). slice_get ctx.slots m ≡ Some x) here (at 0 x refl)),
+          each_renamed (i + 1) ss (λ k y h. let there : i + suc k ≡ i + 1 + k = omega arith in subst (λ (m : ℕ). slice_get ctx.slots m ≡
+              Some y) there (at (suc k) y h)),
+        )
 
     plus_none : (k : ℕ) → 0 + k ≡ k
     plus_none k = omega arith
@@ -160,16 +180,20 @@ module _ (f : CheckedFn) (ctx : Context) (blocks : List Block) (st : State) (goo
     abbrev FitsAt : (ℕ → ℤ) → ℕ → Option Shape → Type 0
     FitsAt sibling k x = ShapeFits f ctx blocks st types of_slots changes slot sibling k x
 
-    others_at : (i : ℕ) (ss : List (Option Shape)) → OthersKeep f ctx blocks st types of_slots changes slot (local_at st) (local_at next) i ss
-        → (k : ℕ) (x : Option Shape) → slice_get ss k ≡ Some x → i + k ≢ slot → FitsAt (local_at st) (i + k) x → FitsAt (local_at next) (i + k) x
+    others_at : (i : ℕ) (ss : List (Option Shape)) → OthersKeep f ctx blocks st types of_slots changes slot (local_at st) (local_at next) i
+        ss
+        → (k : ℕ) (x : Option Shape) → slice_get ss k ≡ Some x → i + k ≢ slot → FitsAt (local_at st) (i + k) x → FitsAt (local_at next)
+        (i + k) x
     others_at i [] all k x h n = absurd cc
     others_at i (y ∷ ss) all zero x h n =
         let here : i ≡ i + 0 = omega arith in
         subst (λ (m : ℕ). FitsAt (local_at st) m x → FitsAt (local_at next) m x) here
-        (subst (λ (w : Option Shape). FitsAt (local_at st) i w → FitsAt (local_at next) i w) (some_same y x h) (all.0 (λ e. n (sym here ∙ e))))
+        (subst (λ (w : Option Shape). FitsAt (local_at st) i w → FitsAt (local_at next) i w) (some_same y x h)
+        (all.0 (λ e. n (sym here ∙ e))))
     others_at i (y ∷ ss) all (suc k) x h n =
         let next' : i + 1 + k ≡ i + suc k = omega arith in
-        subst (λ (m : ℕ). FitsAt (local_at st) m x → FitsAt (local_at next) m x) next' (others_at (i + 1) ss all.1 k x h (λ e. n (sym next' ∙ e)))
+        subst (λ (m : ℕ). FitsAt (local_at st) m x → FitsAt (local_at next) m x) next' (others_at (i + 1) ss all.1 k x h
+        (λ e. n (sym next' ∙ e)))
 
     abbrev pub OthersHold : Type 0
     OthersHold = OthersKeep f ctx blocks st types of_slots changes slot (local_at st) (local_at next) 0 ctx.slots
@@ -178,15 +202,19 @@ module _ (f : CheckedFn) (ctx : Context) (blocks : List Block) (st : State) (goo
     shape_at k x None h = absurd cc
     shape_at k x (Some y) h = ap (λ (o : Option Shape). Some o) h
 
-    from_first : OthersHold → (k : ℕ) (x : Option Shape) → slice_get ctx.slots k ≡ Some x → k ≢ slot → FitsAt (local_at st) k x → FitsAt (local_at next) k x
+    from_first : OthersHold → (k : ℕ) (x : Option Shape) → slice_get ctx.slots k ≡ Some x → k ≢ slot → FitsAt (local_at st) k x
+        → FitsAt (local_at next) k x
     from_first others k x h n =
-        subst (λ (m : ℕ). FitsAt (local_at st) m x → FitsAt (local_at next) m x) (plus_none k) (others_at 0 ctx.slots others k x h (λ e. n (sym (plus_none k) ∙ e)))
+        subst (λ (m : ℕ). FitsAt (local_at st) m x → FitsAt (local_at next) m x) (plus_none k) (others_at 0 ctx.slots others k x h
+        (λ e. n (sym (plus_none k) ∙ e)))
 
     value_stays : (P : ℤ → Type 0) (k : ℕ) → IsPlainSlot ctx k → k ≢ slot → P (local_at st k) → P (local_at next k)
     value_stays P k is n p = subst P (sym (stays k is n)) p
 
-    hidden_fits : ((k h : ℕ) → k ≢ slot → hidden_slot ctx.locals k ≡ Some h → (local_at next h ≡ local_at st h) × (local_at next (h + 1) ≡ local_at st (h + 1)))
-        → (k elem : ℕ) → IsPlainSlot ctx k → k ≢ slot → (o : Option ℕ) → hidden_slot ctx.locals k ≡ o → FitsHidden ctx blocks st k elem o → FitsHidden ctx blocks next k elem o
+    hidden_fits : ((k h : ℕ) → k ≢ slot → hidden_slot ctx.locals k ≡ Some h → (local_at next h ≡ local_at st h)
+        × (local_at next (h + 1) ≡ local_at st (h + 1)))
+        → (k elem : ℕ) → IsPlainSlot ctx k → k ≢ slot → (o : Option ℕ) → hidden_slot ctx.locals k ≡ o → FitsHidden ctx blocks st k elem o
+        → FitsHidden ctx blocks next k elem o
     hidden_fits stay k elem is n None e fits = fits
     hidden_fits stay k elem is n (Some h) e fits =
         let both = stay k h n e in
@@ -196,20 +224,26 @@ module _ (f : CheckedFn) (ctx : Context) (blocks : List Block) (st : State) (goo
 
     module _ (x : Shape) (x_is : slot_shape ctx slot ≡ Some x) (is : IsNext slot x z next) where
       other_holds : OthersHold → (k : ℕ) (y : Shape) → slot_shape ctx k ≡ Some y → k ≢ slot → SlotHolds ctx blocks next k y
-      other_holds others k (shape.Int t) h n = value_stays (λ v. IsTrue (is_of t v)) k (shape.Int t, h, λ e. absurd cc) n (good.frame.holds k (shape.Int t) h)
+      other_holds others k (shape.Int t) h n = value_stays (λ v. IsTrue (is_of t v)) k (shape.Int t, h, λ e. absurd cc) n
+          (good.frame.holds k (shape.Int t) h)
       other_holds others k (shape.Pointer elem (bounds.Within lo hi)) h n =
           let p : IsPlainSlot ctx k = (shape.Pointer elem (bounds.Within lo hi), h, λ e. absurd cc) in
-          let now = good.frame.holds k (shape.Pointer elem (bounds.Within lo hi)) h in
-          (value_stays (λ v. IsTrue (is_word v)) k p n now.0,
-            from_first others k (Some (shape.Pointer elem (bounds.Within lo hi))) (shape_at k (shape.Pointer elem (bounds.Within lo hi)) (slice_get ctx.slots k) h) n now.1)
+          let now = good.frame.holds k (shape.Pointer elem (bounds.Within lo hi)) h in (
+            value_stays (λ v. IsTrue (is_word v)) k p n now.0,
+            from_first others k (Some (shape.Pointer elem (bounds.Within lo hi))) (shape_at k (shape.Pointer elem (bounds.Within lo hi))
+                (slice_get ctx.slots k) h) n now.1,
+          )
       other_holds others k (shape.Pointer elem bounds.Hidden) h n =
           let p : IsPlainSlot ctx k = (shape.Pointer elem bounds.Hidden, h, λ e. absurd cc) in
           let now = good.frame.holds k (shape.Pointer elem bounds.Hidden) h in
           (value_stays (λ v. IsTrue (is_word v)) k p n now.0, hidden_fits is.hidden_stays k elem p n (hidden_slot ctx.locals k) refl now.1)
       other_holds others k (shape.Pointer elem bounds.Nullterm) h n =
           let p : IsPlainSlot ctx k = (shape.Pointer elem bounds.Nullterm, h, λ e. absurd cc) in
-          let now = good.frame.holds k (shape.Pointer elem bounds.Nullterm) h in
-          (value_stays (λ v. IsTrue (is_word v)) k p n now.0, value_stays (λ v. Fits blocks ctx.table.elems ctx.table.structs elem true (pos 0) (pos 0) v) k p n now.1)
+          let now = good.frame.holds k (shape.Pointer elem bounds.Nullterm) h in (
+            value_stays (λ v. IsTrue (is_word v)) k p n now.0,
+            value_stays (λ v. Fits blocks ctx.table.elems ctx.table.structs elem true
+                (pos 0) (pos 0) v) k p n now.1,
+          )
       other_holds others k (shape.Struct t) h n = good.frame.holds k (shape.Struct t) h
       other_holds others k shape.Address h n = is.words k h
 

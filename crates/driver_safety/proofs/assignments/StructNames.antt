@@ -51,7 +51,8 @@ module _ (st : State) (ctx : Context) (place : CheckedExpr) (a s : ℕ) (t : Str
   unfolding edge_sum edge_value parts_at
   old_has k n =
       let e : Edge = record { base = Some k; terms = []; bytes = pos 0 } in
-      let whole = member_edge st ctx place a s t is (constant (pos 0)) (pos 0) e (record { base = n; terms = All-nil (λ x. IsNamed st a t x.1) }) (has_constant st (pos 0)) in
+      let whole = member_edge st ctx place a s t is (constant (pos 0)) (pos 0) e
+      (record { base = n; terms = All-nil (λ x. IsNamed st a t x.1) }) (has_constant st (pos 0)) in
       let sum : Sum = name_sum ctx (of_struct place s) k in
       record {
         read = have_front st sum.parts (Constant (pos 1) (pos 0) ∷ []) whole.read;
@@ -71,7 +72,12 @@ module _ (st : State) (ctx : Context) (place : CheckedExpr) (a s : ℕ) (t : Str
 
   old_terms : (ts : List (ℤ × ℕ)) → All (λ x. IsSibling t x.1) ts → TermsHave st ctx (of_struct place s) before ts
   old_terms [] all = tt
-  old_terms (x ∷ ts) all = (old_has x.1 (named x.1 (All-head (λ x. IsSibling t x.1) x ts all)), old_once x.1, old_terms ts (All-tail (λ x. IsSibling t x.1) x ts all))
+  old_terms (x ∷ ts) all = (
+    old_has x.1 (named x.1 (All-head (λ x. IsSibling t x.1) x ts all)),
+    old_once x.1,
+    old_terms ts
+        (All-tail (λ x. IsSibling t x.1) x ts all),
+  )
 
   old_base : (b : Option ℕ) → IsBaseOf t b → BaseHas st ctx (of_struct place s) before b
   old_base None n = tt
@@ -81,7 +87,8 @@ module _ (st : State) (ctx : Context) (place : CheckedExpr) (a s : ℕ) (t : Str
   old_names e n = record { base = old_base e.base n.base; terms = old_terms e.terms n.terms }
 
   -- ---- with a new value for one
-  module _ (k : ℕ) (after : ℕ → ℤ) (new : Sum) (once : (m : Member) (x : Scalar) → slice_get t.members k ≡ Some m → m.shape ≡ shape.Int x → AreOnce new.parts)
+  module _ (k : ℕ) (after : ℕ → ℤ) (new : Sum) (once : (m : Member) (x : Scalar) → slice_get t.members k ≡ Some m → m.shape ≡ shape.Int x
+      → AreOnce new.parts)
       (has : IsSibling t k → HasValue st new (after k)) (stays : (j : ℕ) → IsSibling t j → j ≢ k → after j ≡ before j) where
     abbrev changes : Naming
     changes = changed (names.OfStruct place s) k new
@@ -89,16 +96,20 @@ module _ (st : State) (ctx : Context) (place : CheckedExpr) (a s : ℕ) (t : Str
     eqb_not : (m n : ℕ) → (m == n) ≡ false → n ≢ m
     eqb_not m n h e = true≢false (sym ((Decides-eqb m n).1 (sym e)) ∙ h)
 
-    new_or : (j : ℕ) → IsSibling t j → (b : Bool) → (k == j) ≡ b → HasValue st (if b then new else named_sum ctx (names.OfStruct place s) j) (after j)
+    new_or : (j : ℕ) → IsSibling t j → (b : Bool) → (k == j) ≡ b → HasValue st (if b then new else named_sum ctx (names.OfStruct place s)
+        j) (after j)
     unfolding name_sum
-    new_or j n true e = let here = (Decides-eqb k j).0 e in subst (λ (i : ℕ). HasValue st new (after i)) here (has (subst (IsSibling t) (sym here) n))
-    new_or j n false e = subst (λ (v : ℤ). HasValue st (named_sum ctx (names.OfStruct place s) j) v) (sym (stays j n (eqb_not k j e))) (old_has j (named j n))
+    new_or j n true e = let here = (Decides-eqb k j).0 e in subst (λ (i : ℕ). HasValue st new (after i)) here
+        (has (subst (IsSibling t) (sym here) n))
+    new_or j n false e = subst (λ (v : ℤ). HasValue st (named_sum ctx (names.OfStruct place s) j) v) (sym (stays j n (eqb_not k j e)))
+        (old_has j (named j n))
 
     new_has : (j : ℕ) → IsSibling t j → HasValue st (name_sum ctx changes j) (after j)
     unfolding name_sum
     new_has j n = new_or j n (k == j) refl
 
-    once_or : (j : ℕ) → IsIntegerMember t j → (b : Bool) → (k == j) ≡ b → AreOnce (if b then new else named_sum ctx (names.OfStruct place s) j).parts
+    once_or : (j : ℕ) → IsIntegerMember t j → (b : Bool) → (k == j) ≡ b
+        → AreOnce (if b then new else named_sum ctx (names.OfStruct place s) j).parts
     unfolding name_sum
     once_or j n true e = once n.0 n.2 (subst (λ (i : ℕ). slice_get t.members i ≡ Some n.0) (sym ((Decides-eqb k j).0 e)) n.1) n.3
     once_or j n false e = old_once j
@@ -107,10 +118,14 @@ module _ (st : State) (ctx : Context) (place : CheckedExpr) (a s : ℕ) (t : Str
     unfolding name_sum
     new_once j n = once_or j n (k == j) refl
 
-    new_terms : (ts : List (ℤ × ℕ)) → All (λ x. IsSibling t x.1) ts → All (λ x. IsIntegerMember t x.1) ts → TermsHave st ctx changes after ts
+    new_terms : (ts : List (ℤ × ℕ)) → All (λ x. IsSibling t x.1) ts → All (λ x. IsIntegerMember t x.1) ts → TermsHave st ctx changes after
+        ts
     new_terms [] all whole = tt
-    new_terms (x ∷ ts) all whole = (new_has x.1 (All-head (λ x. IsSibling t x.1) x ts all), new_once x.1 (All-head (λ x. IsIntegerMember t x.1) x ts whole),
-        new_terms ts (All-tail (λ x. IsSibling t x.1) x ts all) (All-tail (λ x. IsIntegerMember t x.1) x ts whole))
+    new_terms (x ∷ ts) all whole = (
+      new_has x.1 (All-head (λ x. IsSibling t x.1) x ts all),
+      new_once x.1 (All-head (λ x. IsIntegerMember t x.1) x ts whole),
+      new_terms ts (All-tail (λ x. IsSibling t x.1) x ts all) (All-tail (λ x. IsIntegerMember t x.1) x ts whole),
+    )
 
     new_base : (b : Option ℕ) → IsBaseOf t b → BaseHas st ctx changes after b
     new_base None n = tt
@@ -118,7 +133,11 @@ module _ (st : State) (ctx : Context) (place : CheckedExpr) (a s : ℕ) (t : Str
 
     terms_agree : (ts : List (ℤ × ℕ)) → All (λ x. IsSibling t x.1) ts → TermsAgree k before after ts
     terms_agree [] all = tt
-    terms_agree (x ∷ ts) all = (stays x.1 (All-head (λ x. IsSibling t x.1) x ts all), terms_agree ts (All-tail (λ x. IsSibling t x.1) x ts all))
+    terms_agree (x ∷ ts) all = (
+      stays x.1 (All-head (λ x. IsSibling t x.1) x ts all),
+      terms_agree ts (All-tail (λ x. IsSibling t x.1) x ts
+          all),
+    )
 
     base_agrees : (b : Option ℕ) → IsBaseOf t b → BaseAgrees k before after b
     base_agrees None n = tt

@@ -58,21 +58,30 @@ found_first p (x ∷ xs) (suc a) y h g = by (found_first p xs a y h g) (p x) ref
 -- whatever member it is
 module _ (f : CheckedFn) (ctx : Context) (st : State) where
   pub any_tag_sound : (p : Place) (s m offset : ℕ) (scalar : Scalar) (new : Part)
-      → Sound f st ctx.first (tag_change ctx p s m offset scalar new) (λ ids. (tagged (unions_of ctx.table s) m ≡ None → Pass f st ids (Unit {0}))
-        × ((u : UnionShape) → tagged (unions_of ctx.table s) m ≡ Some u → KeepsTag f ctx st p offset scalar new u ids))
+      → Sound f st ctx.first (tag_change ctx p s m offset scalar new) (λ ids. (tagged (unions_of ctx.table s) m ≡ None
+      → Pass f st ids (Unit {0}))
+      × ((u : UnionShape) → tagged (unions_of ctx.table s) m ≡ Some u → KeepsTag f ctx st p offset scalar new u ids))
   unfolding tag_change
   any_tag_sound p s m offset scalar new = by (tagged (unions_of ctx.table s) m) refl
     where
       not_both : (u : UnionShape) → ◌≡◌ {A = Option UnionShape} None (Some u) → ⊥
       not_both u h = absurd cc
+
       by : (o : Option UnionShape) → tagged (unions_of ctx.table s) m ≡ o
-          → Sound f st ctx.first (optional_kept ctx p offset scalar new o) (λ ids. (o ≡ None → Pass f st ids (Unit {0})) × ((u : UnionShape) → o ≡ Some u → KeepsTag f ctx st p offset scalar new u ids))
+          → Sound f st ctx.first (optional_kept ctx p offset scalar new o) (λ ids. (o ≡ None → Pass f st ids (Unit {0}))
+          × ((u : UnionShape) → o ≡ Some u → KeepsTag f ctx st p offset scalar new u ids))
       by None e = pure_sound f st ctx.first [] _ (λ h. pass_none f st (Unit {0}) tt, λ u h. absurd (not_both u h))
-      by (Some u) e = weaker f st ctx.first _ _ _ (λ ids q. (λ h. absurd (not_both u (sym h)), λ x h. subst (λ (x : UnionShape). KeepsTag f ctx st p offset scalar new x ids) (some_same u x h) q))
+      by (Some u) e = weaker f st ctx.first _ _ _ (λ ids q. (
+        λ h. absurd (not_both u (sym h)),
+        λ x h. subst (λ (x : UnionShape). KeepsTag f
+            ctx st p offset scalar new x ids) (some_same u x h) q,
+      ))
           (optional u e)
         where
-          optional : (u : UnionShape) → tagged (unions_of ctx.table s) m ≡ Some u → Sound f st ctx.first (optional_kept ctx p offset scalar new (Some u)) (KeepsTag f ctx st p offset scalar new u)
-          optional u e = subst (λ (o : Option UnionShape). Sound f st ctx.first (optional_kept ctx p offset scalar new o) (KeepsTag f ctx st p offset scalar new u)) e (tag_sound f ctx st p s m offset scalar new u e)
+          optional : (u : UnionShape) → tagged (unions_of ctx.table s) m ≡ Some u → Sound f st ctx.first (optional_kept ctx p offset scalar
+              new (Some u)) (KeepsTag f ctx st p offset scalar new u)
+          optional u e = subst (λ (o : Option UnionShape). Sound f st ctx.first (optional_kept ctx p offset scalar new o)
+              (KeepsTag f ctx st p offset scalar new u)) e (tag_sound f ctx st p s m offset scalar new u e)
 
 -- what is found is there
 pub find_there : (p : UnionShape → Bool) (xs : List UnionShape) (y : UnionShape) → find p xs ≡ Some y → (b : ℕ) × (slice_get xs b ≡ Some y)

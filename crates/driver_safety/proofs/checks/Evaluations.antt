@@ -65,7 +65,8 @@ module _ (f : CheckedFn) (st : State) where
   pass_then (id ∷ a) b P R p k =
       safe_same _ _ _ (tests_more id (a ++ b))
       (safe_again (test f st (check_of f id)) (λ _. tests [] f st a) (λ _. tests [] f st (a ++ b)) (λ _. P) (λ _. P × R)
-        (safe_same (tests [] f st (id ∷ a)) (test f st (check_of f id) >>= λ _. tests [] f st a) (λ _. P) (sym (tests_more id a)) p) (λ u s. pass_then a b P R s k))
+      (safe_same (tests [] f st (id ∷ a)) (test f st (check_of f id) >>= λ _. tests [] f st a) (λ _. P) (sym (tests_more id a)) p)
+      (λ u s. pass_then a b P R s k))
 
   pub eval-Number : (z : ℤ) (s : Scalar) → eval [] f st (V.Number z s) ≡ Ok (converted s z)
   unfolding eval
@@ -75,7 +76,8 @@ module _ (f : CheckedFn) (st : State) where
   unfolding eval
   eval-Local slot = at-Local Got (eval_level (tests [] f st) st) slot
 
-  pub eval-Through : (p : CheckedExpr) (ids : List ℕ) → eval [] f st (V.Through p ids) ≡ (eval [] f st p >>= λ v. tests [] f st ids >>= λ _. Ok v)
+  pub eval-Through : (p : CheckedExpr) (ids : List ℕ) → eval [] f st (V.Through p ids) ≡ (eval [] f st p >>= λ v. tests [] f st ids >>= λ
+      _. Ok v)
   unfolding eval
   eval-Through p ids = at-Through Got (eval_level (tests [] f st) st) p ids
 
@@ -84,7 +86,8 @@ module _ (f : CheckedFn) (st : State) where
   eval-Load s p = at-Load Got (eval_level (tests [] f st) st) s p
 
   pub eval-Binary : (op : Arithmetic) (s : Scalar) (a b : CheckedExpr) (ids : List ℕ)
-      → eval [] f st (V.Binary op s a b ids) ≡ (eval [] f st a >>= λ x. eval [] f st b >>= λ y. tests [] f st ids >>= λ _. arithmetic op s x y)
+      → eval [] f st (V.Binary op s a b ids) ≡ (eval [] f st a >>= λ x. eval [] f st b >>= λ y. tests [] f st ids >>= λ _. arithmetic op s
+      x y)
   unfolding eval
   eval-Binary op s a b ids = at-Binary Got (eval_level (tests [] f st) st) op s a b ids
 
@@ -101,16 +104,19 @@ module _ (f : CheckedFn) (st : State) where
   eval-AddressOf p = at-AddressOf Got (eval_level (tests [] f st) st) p
 
   pub eval-Element : (p i : CheckedExpr) (size : ℕ) (ids : List ℕ)
-      → eval [] f st (V.Element p i size ids) ≡ (eval [] f st p >>= λ v. eval [] f st i >>= λ n. tests [] f st ids >>= λ _. address (v +ℤ (pos size *ℤ n)))
+      → eval [] f st (V.Element p i size ids) ≡ (eval [] f st p >>= λ v. eval [] f st i >>= λ n. tests [] f st ids >>= λ _. address
+      (v +ℤ (pos size *ℤ n)))
   unfolding eval
   eval-Element p i size ids = at-Element Got (eval_level (tests [] f st) st) p i size ids
 
-  pub eval-Field : (p : CheckedExpr) (offset : ℕ) (ids : List ℕ) → eval [] f st (V.Field p offset ids) ≡ (eval [] f st p >>= λ a. tests [] f st ids >>= λ _. address (a +ℤ pos offset))
+  pub eval-Field : (p : CheckedExpr) (offset : ℕ) (ids : List ℕ) → eval [] f st (V.Field p offset ids) ≡ (eval [] f st p >>= λ a. tests []
+      f st ids >>= λ _. address (a +ℤ pos offset))
   unfolding eval
   eval-Field p offset ids = at-Field Got (eval_level (tests [] f st) st) p offset ids
 
   pub eval-Moved : (how : PointerSum) (p i : CheckedExpr) (size : ℕ) (ids : List ℕ)
-      → eval [] f st (V.Moved how p i size ids) ≡ (parts how (eval [] f st p) (eval [] f st i) >>= λ x. tests [] f st ids >>= λ _. address (moved how size x.0 x.1))
+      → eval [] f st (V.Moved how p i size ids) ≡ (parts how (eval [] f st p) (eval [] f st i) >>= λ x. tests [] f st ids >>= λ _. address
+      (moved how size x.0 x.1))
   unfolding eval
   eval-Moved how p i size ids = at-Moved Got (eval_level (tests [] f st) st) how p i size ids
 
@@ -123,6 +129,7 @@ module _ (f : CheckedFn) (st : State) where
   unfolding eval
   eval-Compare op s a b = at-Compare Got (eval_level (tests [] f st) st) op s a b
 
-  pub eval-Logical : (op : Logic) (a b : CheckedExpr) → eval [] f st (V.Logical op a b) ≡ (eval [] f st a >>= λ x. logical op x (eval [] f st b))
+  pub eval-Logical : (op : Logic) (a b : CheckedExpr) → eval [] f st (V.Logical op a b) ≡ (eval [] f st a >>= λ x. logical op x
+      (eval [] f st b))
   unfolding eval
   eval-Logical op a b = at-Logical Got (eval_level (tests [] f st) st) op a b

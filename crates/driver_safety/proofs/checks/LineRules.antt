@@ -31,10 +31,18 @@ module _ (f : CheckedFn) where
     pub checks : IsFront n.checks out.checks
 
   stands_before : (n out : Numbered) → Grows n out → Stands out → Stands n
-  stands_before n out g s = record { atoms = front_front n.atoms out.atoms f.atoms g.atoms s.atoms; checks = front_front n.checks out.checks f.checks g.checks s.checks }
+  stands_before n out g s = record {
+    atoms = front_front n.atoms out.atoms f.atoms g.atoms s.atoms;
+    checks = front_front n.checks
+        out.checks f.checks g.checks s.checks;
+  }
 
   grows_twice : (n m out : Numbered) → Grows n m → Grows m out → Grows n out
-  grows_twice n m out g k = record { atoms = front_front n.atoms m.atoms out.atoms g.atoms k.atoms; checks = front_front n.checks m.checks out.checks g.checks k.checks }
+  grows_twice n m out g k = record {
+    atoms = front_front n.atoms m.atoms out.atoms g.atoms k.atoms;
+    checks = front_front n.checks m.checks
+        out.checks g.checks k.checks;
+  }
 
   -- what is derived with its lines: the checks of the function only grow, and where they all stand in it, the fact
   pub record SoundAt {A : Type 0} (p : Checking Numbered A) (Q : A → Type 0) : Type 0 where
@@ -43,8 +51,14 @@ module _ (f : CheckedFn) where
   pub done_at : {A : Type 0} (a : A) (Q : A → Type 0) → Q a → SoundAt (done a) Q
   done_at {A} a Q q = record {
     run = λ n b out h.
-        let e = pair_same a b n out h in
-        (record { atoms = front_same n.atoms out.atoms (ap (λ (x : Numbered). x.atoms) e.1); checks = front_same n.checks out.checks (ap (λ (x : Numbered). x.checks) e.1) }, λ s. subst Q e.0 q);
+        let e = pair_same a b n out h in (
+          record {
+            atoms = front_same n.atoms out.atoms (ap (λ (x : Numbered). x.atoms) e.1);
+            checks = front_same n.checks out.checks
+                (ap (λ (x : Numbered). x.checks) e.1);
+          },
+          λ s. subst Q e.0 q,
+        );
   }
 
   pub afterwards_at : {A B : Type 0} (p : Checking Numbered A) (g : A → Checking Numbered B) (Q : A → Type 0) (R : B → Type 0)
@@ -52,7 +66,8 @@ module _ (f : CheckedFn) where
   unfolding afterwards
   afterwards_at {A} {B} p g Q R e k = record { run = λ n b out h. by n b out (p n) refl h }
     where
-      by : (n : Numbered) (b : B) (out : Numbered) (r : Result (A × Numbered) Fault) → p n ≡ r → with_outcome r g ≡ Ok (b, out) → Grows n out × (Stands out → R b)
+      by : (n : Numbered) (b : B) (out : Numbered) (r : Result (A × Numbered) Fault) → p n ≡ r → with_outcome r g ≡ Ok (b, out)
+          → Grows n out × (Stands out → R b)
       by n b out (Err fault) q h = absurd cc
       by n b out (Ok x) q h =
           let one = e.run n x.0 x.1 q in
@@ -75,27 +90,34 @@ module _ (f : CheckedFn) where
   one_more Q (v ∷ values) a h q zero b e = h zero b e
   one_more Q (v ∷ values) a h q (suc i) b e = one_more Q values a (λ i b e. h (suc i) b e) q i b e
 
-  pub turn_at : {A : Type 0} (Q : A → Type 0) (ps : List (Checking Numbered A)) (values : List A) → ((i : ℕ) (p : Checking Numbered A) → slice_get ps i ≡ Some p → SoundAt p Q)
+  pub turn_at : {A : Type 0} (Q : A → Type 0) (ps : List (Checking Numbered A)) (values : List A) → ((i : ℕ) (p : Checking Numbered A)
+      → slice_get ps i ≡ Some p → SoundAt p Q)
       → SoundAt (in_turn ps values) (λ all. Each Q values → Each Q all)
   turn_at Q [] values each = done_at values _ (λ h. h)
   turn_at Q (p ∷ ps) values each =
-      afterwards_at _ _ Q _ (each zero p refl) (λ a. weaker_at _ _ _ (λ all h q before. h (one_more Q values a before q)) (turn_at Q ps (values ++ a ∷ []) (λ i p e. each (suc i) p e)))
+      afterwards_at _ _ Q _ (each zero p refl) (λ a. weaker_at _ _ _ (λ all h q before. h (one_more Q values a before q))
+      (turn_at Q ps (values ++ a ∷ []) (λ i p e. each (suc i) p e)))
 
   -- one derivation, at a line: the fact holds in every state
   pub line_at : {A : Type 0} (ctx : Context) (line : ℕ) (p : Context → Deriving A) (Q : State → A → Type 0)
       → ((st : State) (c : Context) → Sound f st c.first (p c) (Q st)) → SoundAt (at_line ctx line p) (λ a. (st : State) → Q st a)
   line_at {A} ctx line p Q each = record { run = λ n a out h. by n a out (p (statement_context ctx line n) []) refl h }
     where
-      last : (n : Numbered) (a x : A) (t : List Asked) (out : Numbered) (o : Option Numbered) → p (statement_context ctx line n) [] ≡ Some (x, t) → numbered t n ≡ o → with_numbers line x o ≡ Ok (a, out)
+      last : (n : Numbered) (a x : A) (t : List Asked) (out : Numbered) (o : Option Numbered) → p (statement_context ctx line n) [] ≡ Some
+          (x, t) → numbered t n ≡ o → with_numbers line x o ≡ Ok (a, out)
           → Grows n out × (Stands out → (st : State) → Q st a)
       last n a x t out None q r h = absurd cc
       last n a x t out (Some m) q r h =
           let e = pair_same x a m out h in
           let r' : numbered t n ≡ Some out = r ∙ ap (λ (y : Numbered). Some y) e.1 in
-          let grown = (numbered_tested f (record { locals = []; memory = record { bytes = []; granted = [] } }) t n out r') in
-          (record { atoms = grown.atoms; checks = grown.checks }, λ s st.
-              let tested = (numbered_tested f st t n out r').tested s.atoms s.checks in
-              subst (Q st) e.0 (((each st (statement_context ctx line n)).run [] x t q).1 tested))
-      by : (n : Numbered) (a : A) (out : Numbered) (o : Option (A × List Asked)) → p (statement_context ctx line n) [] ≡ o → numbered_at line n o ≡ Ok (a, out) → Grows n out × (Stands out → (st : State) → Q st a)
+          let grown = (numbered_tested f (record { locals = []; memory = record { bytes = []; granted = [] } }) t n out r') in (
+            record { atoms = grown.atoms; checks = grown.checks },
+            λ s st.
+                let tested = (numbered_tested f st t n out r').tested s.atoms s.checks in
+                subst (Q st) e.0 (((each st (statement_context ctx line n)).run [] x t q).1 tested),
+          )
+
+      by : (n : Numbered) (a : A) (out : Numbered) (o : Option (A × List Asked)) → p (statement_context ctx line n) [] ≡ o
+          → numbered_at line n o ≡ Ok (a, out) → Grows n out × (Stands out → (st : State) → Q st a)
       by n a out None q h = absurd cc
       by n a out (Some r) q h = last n a r.0 r.1 out (numbered r.1 n) q refl h

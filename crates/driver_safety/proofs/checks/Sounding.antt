@@ -1,4 +1,5 @@
--- What a rule ensures where it derives something, in one state: the checks only grow, and where all of them stand in the function, the fact.
+-- What a rule ensures where it derives something, in one state: the checks only grow, and where all of them stand in the function, the
+-- fact.
 use Rattle.std.proofs.Common.{◌≡◌, ℕ, suc, zero, ◌+◌, Bool, true, false, List, [], ◌∷◌, ◌++◌, length, Option, Some, None, slice_get, if◌then◌else◌, refl, sym, ap, ◌∙◌, subst, arith}
 use Rattle.sd_base.specs.declared.kinds.CheckKind.{CheckKind}
 use Rattle.checked_tree.specs.declared.units.CheckedFn.{CheckedFn}
@@ -34,7 +35,8 @@ pub get_last : {A : Type 0} (s : List A) (x : A) → slice_get (s ++ x ∷ []) (
 get_last [] x = refl
 get_last (y ∷ ys) x = get_last ys x
 
-pub tested_front : (f : CheckedFn) (st : State) (first : ℕ) (s t : List Asked) → IsFront s t → AreTested f st first t → AreTested f st first s
+pub tested_front : (f : CheckedFn) (st : State) (first : ℕ) (s t : List Asked) → IsFront s t → AreTested f st first t
+    → AreTested f st first s
 tested_front f st first s t front all = record {
   each = λ k q h. all.each k q (subst (λ l. slice_get l k ≡ Some q) (sym front.1) (get_front s front.0 k q h));
 }
@@ -77,7 +79,8 @@ module _ (f : CheckedFn) (st : State) (first : ℕ) where
   }
 
   -- what is looked up, and then a rule that goes by what was found
-  pub known_sound : {A B : Type 0} (o : Option A) (g : A → Deriving B) (R : B → Type 0) → ((a : A) → o ≡ Some a → Sound (g a) R) → Sound (bind (lift o) g) R
+  pub known_sound : {A B : Type 0} (o : Option A) (g : A → Deriving B) (R : B → Type 0) → ((a : A) → o ≡ Some a → Sound (g a) R)
+      → Sound (bind (lift o) g) R
   unfolding bind
   known_sound {A} o g R k = record {
     run = λ s b t h.
@@ -86,18 +89,23 @@ module _ (f : CheckedFn) (st : State) (first : ℕ) where
         (k q.0 q.1).run s b t (ap (λ (x : A × List Asked). g x.0 x.1) (some_same (q.0, s) r.0 q.2) ∙ r.2);
   }
 
-  pub if_sound : {A : Type 0} (b : Bool) (p q : Deriving A) (Q : A → Type 0) → (b ≡ true → Sound p Q) → (b ≡ false → Sound q Q) → Sound (if b then p else q) Q
+  pub if_sound : {A : Type 0} (b : Bool) (p q : Deriving A) (Q : A → Type 0) → (b ≡ true → Sound p Q) → (b ≡ false → Sound q Q)
+      → Sound (if b then p else q) Q
   if_sound true p q Q e g = e refl
   if_sound false p q Q e g = g refl
 
   pub weaker : {A : Type 0} (p : Deriving A) (Q R : A → Type 0) → ((a : A) → Q a → R a) → Sound p Q → Sound p R
   weaker p Q R w e = record { run = λ s b t h. let l = e.run s b t h in (l.0, λ all. w b (l.1 all)) }
 
-pub ask_sound : (f : CheckedFn) (st : State) (ctx : Context) (kind : CheckKind) (cond : AskedCond) → Sound f st ctx.first (ask ctx kind cond) (λ id. IsTested f st id cond)
+pub ask_sound : (f : CheckedFn) (st : State) (ctx : Context) (kind : CheckKind) (cond : AskedCond) → Sound f st ctx.first
+    (ask ctx kind cond) (λ id. IsTested f st id cond)
 ask_sound f st ctx kind cond = record {
   run = λ s b t h.
       let new : Asked = record { line = ctx.line; kind = kind; cond = cond } in
       let same = pair_second (ctx.first + (length s + 1)) b (s ++ new ∷ []) t h in
-      let number = pair_first (ctx.first + (length s + 1)) b (s ++ new ∷ []) t h in
-      ((new ∷ [], sym same), λ all. subst (λ id. IsTested f st id cond) number (all.each (length s) new (subst (λ l. slice_get l (length s) ≡ Some new) same (get_last s new))));
+      let number = pair_first (ctx.first + (length s + 1)) b (s ++ new ∷ []) t h in (
+        (new ∷ [], sym same),
+        λ all. subst (λ id. IsTested f st id cond) number
+            (all.each (length s) new (subst (λ l. slice_get l (length s) ≡ Some new) same (get_last s new))),
+      );
 }

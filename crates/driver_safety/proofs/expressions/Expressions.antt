@@ -46,14 +46,16 @@ both_second false b h = absurd cc
 below : (a b : ℕ) → IsTrue (nat_lt a b) → a < b
 below a b h = grind arith
 
-module _ (f : CheckedFn) (ctx : Context) (blocks : List Block) (st : State) (good : IsGood ctx blocks st) (types : HasTypes ctx.table) (slots : HasSlots ctx) where
+module _ (f : CheckedFn) (ctx : Context) (blocks : List Block) (st : State) (good : IsGood ctx blocks st) (types : HasTypes ctx.table)
+    (slots : HasSlots ctx) where
   abbrev Is : Derived → Type 0
   Is d = IsDerived f ctx blocks st d
 
   -- ---- the forms that are made of others
   size_sound : (t : TypeName) (d : Derived) → size_of_type ctx t ≡ Some d → Is d
   unfolding size_of_type
-  size_sound t d h = let r = some_map (size ctx.table t) size_constant d h in subst Is r.2 (size_safe f ctx blocks st r.0 (types.small t r.0 r.1))
+  size_sound t d h = let r = some_map (size ctx.table t) size_constant d h in subst Is r.2 (size_safe f ctx blocks st r.0
+      (types.small t r.0 r.1))
 
   -- `e->f`, as `(*e).f`
   arrow_sound : (x : Derived) (name : List ℕ) → Sound f st ctx.first (arrow ctx x name) (λ d. Is x → Is d)
@@ -61,7 +63,8 @@ module _ (f : CheckedFn) (ctx : Context) (blocks : List Block) (st : State) (goo
   arrow_sound x name =
       then_sound f st ctx.first _ _ (λ p. pointer_of ctx x ≡ Some p) _ (lift_sound f st ctx.first (pointer_of ctx x) _ (λ p h. h)) (λ p.
       then_sound f st ctx.first _ _ _ _ (followed_sound f ctx blocks st good types p) (λ l.
-      weaker f st ctx.first _ _ _ (λ d q place h is. q (place (pointer_sound f ctx blocks st good types slots x p h is))) (dotted_sound f ctx blocks st good types l name)))
+      weaker f st ctx.first _ _ _ (λ d q place h is. q (place (pointer_sound f ctx blocks st good types slots x p h is)))
+      (dotted_sound f ctx blocks st good types l name)))
 
   -- `e[i]`
   subscript_sound : (x y : Derived) → Sound f st ctx.first (subscript ctx x y) (λ d. Is x → Is y → Is d)
@@ -69,8 +72,9 @@ module _ (f : CheckedFn) (ctx : Context) (blocks : List Block) (st : State) (goo
   subscript_sound x y =
       then_sound f st ctx.first _ _ (λ p. pointer_of ctx x ≡ Some p) _ (lift_sound f st ctx.first (pointer_of ctx x) _ (λ p h. h)) (λ p.
       then_sound f st ctx.first _ _ (λ i. integer_of ctx y ≡ Some i) _ (lift_sound f st ctx.first (integer_of ctx y) _ (λ i h. h)) (λ i.
-      weaker f st ctx.first _ _ _ (λ d q hi hp dx dy. q (pointer_sound f ctx blocks st good types slots x p hp dx) (integer_sound f ctx blocks st good types slots y i hi dy))
-        (indexed_by_sound f ctx blocks st good types p i)))
+      weaker f st ctx.first _ _ _ (λ d q hi hp dx dy. q (pointer_sound f ctx blocks st good types slots x p hp dx)
+      (integer_sound f ctx blocks st good types slots y i hi dy))
+      (indexed_by_sound f ctx blocks st good types p i)))
 
   -- ---- all forms
   abbrev IsSound : Expr → Type 0
@@ -94,14 +98,17 @@ module _ (f : CheckedFn) (ctx : Context) (blocks : List Block) (st : State) (goo
   by E.Null w = pure_sound f st ctx.first _ Is tt
   by (E.Unary o x) w = then_sound f st ctx.first _ _ Is Is (x.1 w) (λ a. unary_sound f ctx blocks st good types slots o a)
   by (E.Binary o x y) w =
-      then_sound f st ctx.first _ _ Is Is (x.1 (both_first _ _ w)) (λ a. then_sound f st ctx.first _ _ Is _ (y.1 (both_second (has_words x.0) (has_words y.0) w)) (λ b.
+      then_sound f st ctx.first _ _ Is Is (x.1 (both_first _ _ w)) (λ a. then_sound f st ctx.first _ _ Is _
+      (y.1 (both_second (has_words x.0) (has_words y.0) w)) (λ b.
       weaker f st ctx.first _ _ _ (λ d h k l. h l k) (binary_sound f ctx blocks st good types slots o a b)))
-  by (E.Cast t x) w = then_sound f st ctx.first _ _ Is Is (x.1 w) (λ a. lift_sound f st ctx.first (cast ctx t a) _ (λ d e. cast_sound f ctx blocks st good types slots t a d e))
+  by (E.Cast t x) w = then_sound f st ctx.first _ _ Is Is (x.1 w) (λ a. lift_sound f st ctx.first (cast ctx t a) _
+      (λ d e. cast_sound f ctx blocks st good types slots t a d e))
   by (E.Sizeof t) w = lift_sound f st ctx.first (size_of_type ctx t) Is (λ d e. size_sound t d e)
   by (E.Field x n) w = then_sound f st ctx.first _ _ Is Is (x.1 w) (λ a. dotted_sound f ctx blocks st good types a n)
   by (E.Arrow x n) w = then_sound f st ctx.first _ _ Is Is (x.1 w) (λ a. arrow_sound a n)
   by (E.Index x y) w =
-      then_sound f st ctx.first _ _ Is Is (x.1 (both_first _ _ w)) (λ a. then_sound f st ctx.first _ _ Is _ (y.1 (both_second (has_words x.0) (has_words y.0) w)) (λ b.
+      then_sound f st ctx.first _ _ Is Is (x.1 (both_first _ _ w)) (λ a. then_sound f st ctx.first _ _ Is _
+      (y.1 (both_second (has_words x.0) (has_words y.0) w)) (λ b.
       weaker f st ctx.first _ _ _ (λ d h k l. h l k) (subscript_sound a b)))
 
   parts : E.Expr-F Derives → E.Expr-F Expr
@@ -130,7 +137,8 @@ module _ (f : CheckedFn) (ctx : Context) (blocks : List Block) (st : State) (goo
   derive_sound = ind-Expr IsSound (λ z x e. subst (λ l. IsSound (roll-Expr l)) e (here x))
     where
       here : (x : E.Expr-F Derives) → IsSound (roll-Expr (map-Expr Derives Expr (λ k. k.0) x))
-      here x w = subst (λ p. Sound f st ctx.first p Is) (sym (derive_at (parts x) ∙ same x)) (by x (subst IsTrue (words_at (parts x) ∙ same_words x) w))
+      here x w = subst (λ p. Sound f st ctx.first p Is) (sym (derive_at (parts x) ∙ same x))
+          (by x (subst IsTrue (words_at (parts x) ∙ same_words x) w))
 
 -- ---- the laws
 pub each_place : EachPlaceIsSound
@@ -141,4 +149,5 @@ each_place f ctx e d is blocks st good =
     run.1 (subst (λ (n : ℕ). AreTested f st n is.asked) (sym is.first) tested)
 
 pub each_value : EachValueIsSound
-each_value f ctx e d v is h blocks st good = value_sound f ctx blocks st good is.types is.slots d v h (each_place f ctx e d is blocks st good)
+each_value f ctx e d v is h blocks st good = value_sound f ctx blocks st good is.types is.slots d v h (each_place f ctx e d is blocks st
+    good)

@@ -10,7 +10,8 @@ use Rattle.driver_safety.specs.Reaching.{IsOpenAt, IsBetween, Reaches, nowhere, 
 some_same : {A : Type 0} (a b : A) → ◌≡◌ {A = Option A} (Some a) (Some b) → a ≡ b
 some_same a b h = cc
 
-module _ (blocks : List Block) (elems : List Shape) (structs : List StructShape) (elem : ℕ) (own : Shape) (is : slice_get elems elem ≡ Some own) where
+module _ (blocks : List Block) (elems : List Shape) (structs : List StructShape) (elem : ℕ) (own : Shape) (is : slice_get elems elem ≡ Some
+    own) where
   bytes : elem_bytes elems structs elem ≡ shape_size structs own
   bytes = ap (λ (o : Option Shape). unwrap_or (option_map (shape_size structs) o) 0) is
 
@@ -35,24 +36,49 @@ module _ (blocks : List Block) (elems : List Shape) (structs : List StructShape)
     part = o.part;
   }
 
-  pub reaches : (nullterm : Bool) (lo hi v : ℤ) → Fits blocks elems structs elem nullterm lo hi v → Reaches blocks elems structs own nullterm lo hi v
+  pub reaches : (nullterm : Bool) (lo hi v : ℤ) → Fits blocks elems structs elem nullterm lo hi v → Reaches blocks elems structs own
+      nullterm lo hi v
   reaches nullterm lo hi v (null e) = nowhere e
   reaches nullterm lo hi v (in_text n t) = into_text n t
   reaches nullterm lo hi v (in_bounds n b) = between n (record {
-    block = b.block; granted = b.granted; no_text = b.no_text; from = b.from; from_is = b.from_is; to = b.to; to_is = b.to_is; at = b.at; at_is = b.at_is;
-    above = b.above; below = b.below; from_in = b.from_in; to_in = b.to_in;
+    block = b.block;
+    granted = b.granted;
+    no_text = b.no_text;
+    from = b.from;
+    from_is = b.from_is;
+    to = b.to;
+    to_is = b.to_is;
+    at = b.at;
+    at_is = b.at_is;
+    above = b.above;
+    below = b.below;
+    from_in = b.from_in;
+    to_in = b.to_in;
     whole = subst (λ (n : ℕ). IsMultiple n (b.at - b.from)) bytes b.whole;
     elements = λ i l.
         subst (λ (n : ℕ). IsOpenAt elems structs b.block own (b.from + i * n)) bytes
-        (opened b.block (b.from + i * elem_bytes elems structs elem) (b.elements i (subst (λ (n : ℕ). b.from + (i + 1) * n ≤ b.to) (sym bytes) l)));
+        (opened b.block (b.from + i * elem_bytes elems structs elem) (b.elements i (subst (λ (n : ℕ). b.from + (i + 1) * n ≤ b.to)
+        (sym bytes) l)));
   })
 
-  pub fits : (nullterm : Bool) (lo hi v : ℤ) → Reaches blocks elems structs own nullterm lo hi v → Fits blocks elems structs elem nullterm lo hi v
+  pub fits : (nullterm : Bool) (lo hi v : ℤ) → Reaches blocks elems structs own nullterm lo hi v → Fits blocks elems structs elem nullterm
+      lo hi v
   fits nullterm lo hi v (nowhere e) = null e
   fits nullterm lo hi v (into_text n t) = in_text n t
   fits nullterm lo hi v (between n b) = in_bounds n (record {
-    block = b.block; granted = b.granted; no_text = b.no_text; from = b.from; from_is = b.from_is; to = b.to; to_is = b.to_is; at = b.at; at_is = b.at_is;
-    above = b.above; below = b.below; from_in = b.from_in; to_in = b.to_in;
+    block = b.block;
+    granted = b.granted;
+    no_text = b.no_text;
+    from = b.from;
+    from_is = b.from_is;
+    to = b.to;
+    to_is = b.to_is;
+    at = b.at;
+    at_is = b.at_is;
+    above = b.above;
+    below = b.below;
+    from_in = b.from_in;
+    to_in = b.to_in;
     whole = subst (λ (n : ℕ). IsMultiple n (b.at - b.from)) (sym bytes) b.whole;
     elements = λ i l.
         subst (λ (n : ℕ). IsOpenPlace elems structs b.block elem (b.from + i * n)) (sym bytes)

@@ -154,14 +154,16 @@ divides op.Divide = true
 divides op.Remainder = true
 divides _ = false
 
-quotient_safe : (s : Scalar) (y q : ℤ) → s ≢ Void → y ≢ pos 0 → Safe (if int_eq y (pos 0) then Err Wild else Ok (converted s q)) (λ z. IsTrue (is_of s z))
+quotient_safe : (s : Scalar) (y q : ℤ) → s ≢ Void → y ≢ pos 0 → Safe (if int_eq y (pos 0) then Err Wild else Ok (converted s q))
+    (λ z. IsTrue (is_of s z))
 quotient_safe s y q n some = by (int_eq y (pos 0)) refl
   where
     by : (b : Bool) → int_eq y (pos 0) ≡ b → Safe (if b then Err Wild else Ok (converted s q)) (λ z. IsTrue (is_of s z))
     by true e = absurd (some ((Decides-int_eq y (pos 0)).0 e))
     by false e = converted_of s q n
 
-arithmetic_safe : (o : Arithmetic) (s : Scalar) (x y : ℤ) → s ≢ Void → (divides o ≡ true → converted s y ≢ pos 0) → Safe (arithmetic o s x y) (λ z. IsTrue (is_of s z))
+arithmetic_safe : (o : Arithmetic) (s : Scalar) (x y : ℤ) → s ≢ Void → (divides o ≡ true → converted s y ≢ pos 0)
+    → Safe (arithmetic o s x y) (λ z. IsTrue (is_of s z))
 unfolding arithmetic
 arithmetic_safe op.Add s x y n d = converted_of s _ n
 arithmetic_safe op.Subtract s x y n d = converted_of s _ n
@@ -293,16 +295,19 @@ module _ (f : CheckedFn) (ctx : Context) (blocks : List Block) (st : State) wher
   unfolding side
   constant_safe z s w is range type =
       let same = converted_same s z range in
-      let here : side_by (constant_of w) (form.Number z s) ≡ constant_part z = ap (λ (o : Option ℤ). side_by o (form.Number z s)) is in
-      (type, safe_same _ _ _ (eval-Number f st z s ∙ ap (λ (y : ℤ). Ok y) same) (record {
-        range = range;
-        read = subst (PartHasValue st) (sym here) tt;
-        is = ap (part_at st) here ∙ omega (arith, ints, *ℤ_comm (pos 1) z);
-      }))
+      let here : side_by (constant_of w) (form.Number z s) ≡ constant_part z = ap (λ (o : Option ℤ). side_by o (form.Number z s)) is in (
+        type,
+        safe_same _ _ _ (eval-Number f st z s ∙ ap (λ (y : ℤ). Ok y) same) (record {
+          range = range;
+          read = subst (PartHasValue st) (sym here) tt;
+          is = ap (part_at st) here ∙ omega (arith, ints, *ℤ_comm (pos 1) z);
+        }),
+      )
 
   pub number_safe : (n : Number) → n.value < 2 ^ 32 → IsDerived f ctx blocks st (number n)
   unfolding number
-  number_safe n h = constant_safe (pos n.value) (suffix_scalar n.suffix n.value) _ refl (suffix_of n.suffix n.value h) (suffix_integer n.suffix n.value)
+  number_safe n h = constant_safe (pos n.value) (suffix_scalar n.suffix n.value) _ refl (suffix_of n.suffix n.value h)
+      (suffix_integer n.suffix n.value)
 
   pub character_safe : (c : ℕ) → c < 256 → IsDerived f ctx blocks st (character c)
   unfolding character is_of
@@ -319,8 +324,10 @@ module _ (f : CheckedFn) (ctx : Context) (blocks : List Block) (st : State) wher
       small n h = lt-ltb n (2 ^ 32) (omega (arith, h))
 
   -- ---- one integer
-  one_safe : (o : Operator) (e : CheckedExpr) (s : Scalar) (P : ℤ → Type 0) → (s ≡ U32) ⊎ (s ≡ I32) → s ≢ Void → Ok' e P → IsDerived f ctx blocks st (of_type (form.Unary o s e) s)
-  one_safe o e s P u n d = whole_safe (form.Unary o s e) s (safe_same _ _ _ (eval-Unary f st o s e) (safe_bind (eval [] f st e) _ _ _ d (λ x is. unary_of o s x u n)))
+  one_safe : (o : Operator) (e : CheckedExpr) (s : Scalar) (P : ℤ → Type 0) → (s ≡ U32) ⊎ (s ≡ I32) → s ≢ Void → Ok' e P
+      → IsDerived f ctx blocks st (of_type (form.Unary o s e) s)
+  one_safe o e s P u n d = whole_safe (form.Unary o s e) s (safe_same _ _ _ (eval-Unary f st o s e) (safe_bind (eval [] f st e) _ _ _ d
+      (λ x is. unary_of o s x u n)))
 
   on_one_safe : (o : Operator) (w : Whole) → IsValue f ctx blocks st (value.Int w) → IsDerived f ctx blocks st (on_one o w)
   on_one_safe o w d = one_safe o w.form (promoted w.scalar) _ (promoted_is w.scalar) (promoted_no_void w.scalar) d.1
@@ -335,7 +342,8 @@ module _ (f : CheckedFn) (ctx : Context) (blocks : List Block) (st : State) wher
       by : (x : Written) → w.written ≡ x → IsDerived f ctx blocks st (negative_by w x)
       by (written.Number n plain) e =
           let integer = subst (HasType w.scalar) e d.0 in
-          constant_safe (converted w.scalar (neg_ℤ (pos n))) w.scalar _ refl (converted_of w.scalar (neg_ℤ (pos n)) (no_void w.scalar integer)) tt
+          constant_safe (converted w.scalar (neg_ℤ (pos n))) w.scalar _ refl (converted_of w.scalar (neg_ℤ (pos n))
+          (no_void w.scalar integer)) tt
       by (written.Constant z) e = on_one_safe operator.Negative w d
       by written.Other e = on_one_safe operator.Negative w d
 
@@ -345,30 +353,38 @@ module _ (f : CheckedFn) (ctx : Context) (blocks : List Block) (st : State) wher
       (safe_bind (eval [] f st w.form) _ _ _ d.1 (λ x is. cast_of s (converted s x) i (converted_of s x (no_void s i)))))
 
   -- ---- two integers
-  two_safe : (o : Arithmetic) (s : Scalar) (a b : Whole) (ids : List ℕ) → s ≢ Void → IsValue f ctx blocks st (value.Int a) → IsValue f ctx blocks st (value.Int b)
-      → ((y : ℤ) → IsWhole st b y → Pass f st ids (divides o ≡ true → converted s y ≢ pos 0)) → IsDerived f ctx blocks st (of_type (form.Binary o s a.form b.form ids) s)
+  two_safe : (o : Arithmetic) (s : Scalar) (a b : Whole) (ids : List ℕ) → s ≢ Void → IsValue f ctx blocks st (value.Int a)
+      → IsValue f ctx blocks st (value.Int b)
+      → ((y : ℤ) → IsWhole st b y → Pass f st ids (divides o ≡ true → converted s y ≢ pos 0)) → IsDerived f ctx blocks st
+      (of_type (form.Binary o s a.form b.form ids) s)
   two_safe o s a b ids n va vb pass =
       whole_safe (form.Binary o s a.form b.form ids) s (safe_same _ _ _ (eval-Binary f st o s a.form b.form ids)
       (safe_bind (eval [] f st a.form) _ _ _ va.1 (λ x ix. safe_bind (eval [] f st b.form) _ _ _ vb.1 (λ y iy.
       safe_bind (tests [] f st ids) _ _ _ (pass y iy) (λ u d. arithmetic_safe o s x y n d)))))
 
   -- `/ %`
-  divided_sound : (o : Arithmetic) (a b : Whole) → Sound f st ctx.first (divided ctx o a b) (λ d. IsValue f ctx blocks st (value.Int a) → IsValue f ctx blocks st (value.Int b) → IsDerived f ctx blocks st d)
+  divided_sound : (o : Arithmetic) (a b : Whole) → Sound f st ctx.first (divided ctx o a b) (λ d. IsValue f ctx blocks st (value.Int a)
+      → IsValue f ctx blocks st (value.Int b) → IsDerived f ctx blocks st d)
   unfolding divided
   divided_sound o a b =
-      then_sound f st ctx.first _ _ _ _ (ask_sound f st ctx kind.Div (cond.NonZero (side b))) (λ c. pure_sound f st ctx.first (on_two o a b (c ∷ [])) _ (λ tested va vb.
-      two_safe o (common a.scalar b.scalar) a b (c ∷ []) (common_no_void a.scalar b.scalar) va vb (λ y is. pass_one f st c _ (safe_weaker (test f st (check_of f c)) _ _ (tested.tested is.read)
-          (λ u e some d z. some (is.is ∙ converted_zero (common a.scalar b.scalar) y (common_is a.scalar b.scalar) (of_value b.scalar y is.range) z))))))
+      then_sound f st ctx.first _ _ _ _ (ask_sound f st ctx kind.Div (cond.NonZero (side b))) (λ c. pure_sound f st ctx.first
+      (on_two o a b (c ∷ [])) _ (λ tested va vb.
+      two_safe o (common a.scalar b.scalar) a b (c ∷ []) (common_no_void a.scalar b.scalar) va vb (λ y is. pass_one f st c _
+      (safe_weaker (test f st (check_of f c)) _ _ (tested.tested is.read)
+      (λ u e some d z. some (is.is ∙ converted_zero (common a.scalar b.scalar) y (common_is a.scalar b.scalar)
+      (of_value b.scalar y is.range) z))))))
 
   -- the operators without a check
-  plain_safe : (o : Arithmetic) (s : Scalar) (a b : Whole) → s ≢ Void → divides o ≡ false → IsValue f ctx blocks st (value.Int a) → IsValue f ctx blocks st (value.Int b)
+  plain_safe : (o : Arithmetic) (s : Scalar) (a b : Whole) → s ≢ Void → divides o ≡ false → IsValue f ctx blocks st (value.Int a)
+      → IsValue f ctx blocks st (value.Int b)
       → IsDerived f ctx blocks st (of_type (form.Binary o s a.form b.form []) s)
   plain_safe o s a b v n va vb = two_safe o s a b [] v va vb (λ y is. pass_none f st _ (λ d. absurd (both (divides o) n d)))
     where
       both : (b : Bool) → b ≡ false → b ≡ true → ⊥
       both b e g = absurd cc
 
-  compared_safe : (o : Comparison) (s : Scalar) (a b : CheckedExpr) (P Q : ℤ → Type 0) → Ok' a P → Ok' b Q → IsDerived f ctx blocks st (compared o s a b)
+  compared_safe : (o : Comparison) (s : Scalar) (a b : CheckedExpr) (P Q : ℤ → Type 0) → Ok' a P → Ok' b Q → IsDerived f ctx blocks st
+      (compared o s a b)
   unfolding comparison
   compared_safe o s a b P Q va vb = whole_safe (form.Compare o s a b) I32 (safe_same _ _ _ (eval-Compare f st o s a b)
       (safe_bind (eval [] f st a) _ _ _ va (λ x ix. safe_bind (eval [] f st b) _ _ _ vb (λ y iy. truth_of I32 _ (inr refl)))))
@@ -402,15 +418,22 @@ module _ (f : CheckedFn) (ctx : Context) (blocks : List Block) (st : State) wher
   abbrev Ptr : Pointed → Type 0
   Ptr p = IsValue f ctx blocks st (value.Pointer p)
 
-  on_integers_sound : (x : Family) (a b : Whole) → IsFamily x → Sound f st ctx.first (on_integers ctx x a b) (λ d. Int a → Int b → IsDerived f ctx blocks st d)
+  on_integers_sound : (x : Family) (a b : Whole) → IsFamily x → Sound f st ctx.first (on_integers ctx x a b) (λ d. Int a → Int b
+      → IsDerived f ctx blocks st d)
   unfolding on_integers
-  on_integers_sound family.Add a b n = pure_sound f st ctx.first _ _ (λ va vb. plain_safe op.Add (common a.scalar b.scalar) a b (common_no_void a.scalar b.scalar) refl va vb)
-  on_integers_sound family.Subtract a b n = pure_sound f st ctx.first _ _ (λ va vb. plain_safe op.Subtract (common a.scalar b.scalar) a b (common_no_void a.scalar b.scalar) refl va vb)
-  on_integers_sound (family.Plain o) a b n = pure_sound f st ctx.first _ _ (λ va vb. plain_safe o (common a.scalar b.scalar) a b (common_no_void a.scalar b.scalar) n va vb)
-  on_integers_sound (family.Shift o) a b n = pure_sound f st ctx.first _ _ (λ va vb. plain_safe o (promoted a.scalar) a b (promoted_no_void a.scalar) n va vb)
+  on_integers_sound family.Add a b n = pure_sound f st ctx.first _ _ (λ va vb. plain_safe op.Add (common a.scalar b.scalar) a b
+      (common_no_void a.scalar b.scalar) refl va vb)
+  on_integers_sound family.Subtract a b n = pure_sound f st ctx.first _ _ (λ va vb. plain_safe op.Subtract (common a.scalar b.scalar) a b
+      (common_no_void a.scalar b.scalar) refl va vb)
+  on_integers_sound (family.Plain o) a b n = pure_sound f st ctx.first _ _ (λ va vb. plain_safe o (common a.scalar b.scalar) a b
+      (common_no_void a.scalar b.scalar) n va vb)
+  on_integers_sound (family.Shift o) a b n = pure_sound f st ctx.first _ _ (λ va vb. plain_safe o (promoted a.scalar) a b
+      (promoted_no_void a.scalar) n va vb)
   on_integers_sound (family.Divide o) a b n = divided_sound o a b
-  on_integers_sound (family.Order o) a b n = pure_sound f st ctx.first _ _ (λ va vb. compared_safe o (common a.scalar b.scalar) a.form b.form _ _ va.1 vb.1)
-  on_integers_sound (family.Equality o) a b n = pure_sound f st ctx.first _ _ (λ va vb. compared_safe o (common a.scalar b.scalar) a.form b.form _ _ va.1 vb.1)
+  on_integers_sound (family.Order o) a b n = pure_sound f st ctx.first _ _ (λ va vb. compared_safe o (common a.scalar b.scalar) a.form
+      b.form _ _ va.1 vb.1)
+  on_integers_sound (family.Equality o) a b n = pure_sound f st ctx.first _ _ (λ va vb. compared_safe o (common a.scalar b.scalar) a.form
+      b.form _ _ va.1 vb.1)
   on_integers_sound (family.Logic o) a b n = pure_sound f st ctx.first _ _ (λ va vb. joined_safe o a.form b.form _ _ va.1 vb.1)
 
   some_derived : (a b : Derived) → ◌≡◌ {A = Option Derived} (Some a) (Some b) → a ≡ b
@@ -422,29 +445,36 @@ module _ (f : CheckedFn) (ctx : Context) (blocks : List Block) (st : State) wher
 
   module _ (good : IsGood ctx blocks st) (types : HasTypes ctx.table) where
     plus_sound : (p : Pointed) (i : Whole) → Sound f st ctx.first (pointer_plus ctx p i) (λ d. Ptr p → Int i → IsDerived f ctx blocks st d)
-    plus_sound p i = if_sound f st ctx.first p.nullterm _ _ _ (λ e. text_sum_sound f ctx blocks st good types p i e) (λ e. moved_sound f ctx blocks st good types pointer_sum.PointerPlus p i e)
+    plus_sound p i = if_sound f st ctx.first p.nullterm _ _ _ (λ e. text_sum_sound f ctx blocks st good types p i e)
+        (λ e. moved_sound f ctx blocks st good types pointer_sum.PointerPlus p i e)
 
-    unless_sound : (how : PointerSum) (p : Pointed) (i : Whole) → Sound f st ctx.first (moved_unless_text ctx how p i) (λ d. Ptr p → Int i → IsDerived f ctx blocks st d)
-    unless_sound how p i = if_sound f st ctx.first p.nullterm _ _ _ (λ e. none_sound f st ctx.first _) (λ e. moved_sound f ctx blocks st good types how p i e)
+    unless_sound : (how : PointerSum) (p : Pointed) (i : Whole) → Sound f st ctx.first (moved_unless_text ctx how p i) (λ d. Ptr p → Int i
+        → IsDerived f ctx blocks st d)
+    unless_sound how p i = if_sound f st ctx.first p.nullterm _ _ _ (λ e. none_sound f st ctx.first _) (λ e. moved_sound f ctx blocks st
+        good types how p i e)
 
-    pointer_and_integer : (x : Family) (p : Pointed) (i : Whole) → Sound f st ctx.first (on_pointer_and_integer ctx x p i) (λ d. Ptr p → Int i → IsDerived f ctx blocks st d)
+    pointer_and_integer : (x : Family) (p : Pointed) (i : Whole) → Sound f st ctx.first (on_pointer_and_integer ctx x p i) (λ d. Ptr p
+        → Int i → IsDerived f ctx blocks st d)
     unfolding on_pointer_and_integer
     pointer_and_integer family.Add p i = plus_sound p i
     pointer_and_integer family.Subtract p i = unless_sound pointer_sum.PointerMinus p i
     pointer_and_integer (family.Equality o) p i = lift_sound f st ctx.first (compared_with_zero o p i) _ (λ d h vp vi.
-        subst (IsDerived f ctx blocks st) (if_is (is_written 0 i.written) _ d h) (compared_safe o (Pointer 0) p.form form.Null _ _ vp null_safe))
+        subst (IsDerived f ctx blocks st) (if_is (is_written 0 i.written) _ d h) (compared_safe o (Pointer 0) p.form form.Null _ _ vp
+        null_safe))
     pointer_and_integer (family.Logic o) p i = pure_sound f st ctx.first _ _ (λ vp vi. joined_safe o p.form i.form _ _ vp vi.1)
     pointer_and_integer (family.Plain o) p i = none_sound f st ctx.first _
     pointer_and_integer (family.Shift o) p i = none_sound f st ctx.first _
     pointer_and_integer (family.Divide o) p i = none_sound f st ctx.first _
     pointer_and_integer (family.Order o) p i = none_sound f st ctx.first _
 
-    integer_and_pointer : (x : Family) (i : Whole) (p : Pointed) → Sound f st ctx.first (on_integer_and_pointer ctx x i p) (λ d. Int i → Ptr p → IsDerived f ctx blocks st d)
+    integer_and_pointer : (x : Family) (i : Whole) (p : Pointed) → Sound f st ctx.first (on_integer_and_pointer ctx x i p) (λ d. Int i
+        → Ptr p → IsDerived f ctx blocks st d)
     unfolding on_integer_and_pointer
     integer_and_pointer family.Add i p = weaker f st ctx.first _ _ _ (λ d q vi vp. q vp vi) (unless_sound pointer_sum.PlusPointer p i)
     integer_and_pointer family.Subtract i p = none_sound f st ctx.first _
     integer_and_pointer (family.Equality o) i p = lift_sound f st ctx.first (zero_compared o i p) _ (λ d h vi vp.
-        subst (IsDerived f ctx blocks st) (if_is (is_written 0 i.written) _ d h) (compared_safe o (Pointer 0) form.Null p.form _ _ null_safe vp))
+        subst (IsDerived f ctx blocks st) (if_is (is_written 0 i.written) _ d h) (compared_safe o (Pointer 0) form.Null p.form _ _
+        null_safe vp))
     integer_and_pointer (family.Logic o) i p = pure_sound f st ctx.first _ _ (λ vi vp. joined_safe o i.form p.form _ _ vi.1 vp)
     integer_and_pointer (family.Plain o) i p = none_sound f st ctx.first _
     integer_and_pointer (family.Shift o) i p = none_sound f st ctx.first _
@@ -453,8 +483,10 @@ module _ (f : CheckedFn) (ctx : Context) (blocks : List Block) (st : State) wher
 
     pointers : (x : Family) (p q : Pointed) (d : Derived) → on_pointers x p q ≡ Some d → Ptr p → Ptr q → IsDerived f ctx blocks st d
     unfolding on_pointers
-    pointers (family.Order o) p q d h vp vq = subst (IsDerived f ctx blocks st) (if_is (alike p q) _ d h) (compared_safe o (Pointer 0) p.form q.form _ _ vp vq)
-    pointers (family.Equality o) p q d h vp vq = subst (IsDerived f ctx blocks st) (if_is (alike p q) _ d h) (compared_safe o (Pointer 0) p.form q.form _ _ vp vq)
+    pointers (family.Order o) p q d h vp vq = subst (IsDerived f ctx blocks st) (if_is (alike p q) _ d h) (compared_safe o (Pointer 0)
+        p.form q.form _ _ vp vq)
+    pointers (family.Equality o) p q d h vp vq = subst (IsDerived f ctx blocks st) (if_is (alike p q) _ d h) (compared_safe o (Pointer 0)
+        p.form q.form _ _ vp vq)
     pointers (family.Logic o) p q d h vp vq = subst (IsDerived f ctx blocks st) (some_derived _ d h) (joined_safe o p.form q.form _ _ vp vq)
     pointers family.Add p q d h vp vq = absurd cc
     pointers family.Subtract p q d h vp vq = absurd cc
@@ -464,7 +496,8 @@ module _ (f : CheckedFn) (ctx : Context) (blocks : List Block) (st : State) wher
 
     with_null : (x : Family) (p : Pointed) (d : Derived) → pointer_and_null x p ≡ Some d → Ptr p → IsDerived f ctx blocks st d
     unfolding pointer_and_null
-    with_null (family.Equality o) p d h vp = subst (IsDerived f ctx blocks st) (some_derived _ d h) (compared_safe o (Pointer 0) p.form form.Null _ _ vp null_safe)
+    with_null (family.Equality o) p d h vp = subst (IsDerived f ctx blocks st) (some_derived _ d h) (compared_safe o (Pointer 0) p.form
+        form.Null _ _ vp null_safe)
     with_null (family.Order o) p d h vp = absurd cc
     with_null (family.Logic o) p d h vp = absurd cc
     with_null family.Add p d h vp = absurd cc
@@ -475,7 +508,8 @@ module _ (f : CheckedFn) (ctx : Context) (blocks : List Block) (st : State) wher
 
     from_null : (x : Family) (p : Pointed) (d : Derived) → null_and_pointer x p ≡ Some d → Ptr p → IsDerived f ctx blocks st d
     unfolding null_and_pointer
-    from_null (family.Equality o) p d h vp = subst (IsDerived f ctx blocks st) (some_derived _ d h) (compared_safe o (Pointer 0) form.Null p.form _ _ null_safe vp)
+    from_null (family.Equality o) p d h vp = subst (IsDerived f ctx blocks st) (some_derived _ d h) (compared_safe o (Pointer 0) form.Null
+        p.form _ _ null_safe vp)
     from_null (family.Order o) p d h vp = absurd cc
     from_null (family.Logic o) p d h vp = absurd cc
     from_null family.Add p d h vp = absurd cc
@@ -489,12 +523,14 @@ module _ (f : CheckedFn) (ctx : Context) (blocks : List Block) (st : State) wher
     null_and x (value.Pointer p) d h is = from_null x p d h is
     null_and x value.Null d h is = absurd cc
 
-    values_sound : (x : Family) (a b : Value) → IsFamily x → Sound f st ctx.first (on_values ctx x a b) (λ d. IsValue f ctx blocks st a → IsValue f ctx blocks st b → IsDerived f ctx blocks st d)
+    values_sound : (x : Family) (a b : Value) → IsFamily x → Sound f st ctx.first (on_values ctx x a b) (λ d. IsValue f ctx blocks st a
+        → IsValue f ctx blocks st b → IsDerived f ctx blocks st d)
     values_sound x (value.Int a) (value.Int b) n = on_integers_sound x a b n
     values_sound x (value.Int i) (value.Pointer p) n = integer_and_pointer x i p
     values_sound x (value.Int i) value.Null n = none_sound f st ctx.first _
     values_sound x (value.Pointer p) (value.Int i) n = pointer_and_integer x p i
-    values_sound x (value.Pointer p) (value.Pointer q) n = lift_sound f st ctx.first (on_pointers x p q) _ (λ d h vp vq. pointers x p q d h vp vq)
+    values_sound x (value.Pointer p) (value.Pointer q) n = lift_sound f st ctx.first (on_pointers x p q) _ (λ d h vp vq. pointers x p q d h
+        vp vq)
     values_sound x (value.Pointer p) value.Null n = lift_sound f st ctx.first (pointer_and_null x p) _ (λ d h vp vn. with_null x p d h vp)
     values_sound x value.Null v n = lift_sound f st ctx.first (on_null x v) _ (λ d h vn vv. null_and x v d h vv)
 
@@ -518,19 +554,23 @@ module _ (f : CheckedFn) (ctx : Context) (blocks : List Block) (st : State) wher
 
       pub integer_sound : (d : Derived) (w : Whole) → integer_of ctx d ≡ Some w → IsDerived f ctx blocks st d → Int w
       unfolding integer_of
-      integer_sound d w h is = let r = some_then (value_of ctx d) whole w h in whole_is r.0 w r.2 (value_sound f ctx blocks st good types slots d r.0 r.1 is)
+      integer_sound d w h is = let r = some_then (value_of ctx d) whole w h in whole_is r.0 w r.2 (value_sound f ctx blocks st good types
+          slots d r.0 r.1 is)
 
       pub pointer_sound : (d : Derived) (p : Pointed) → pointer_of ctx d ≡ Some p → IsDerived f ctx blocks st d → Ptr p
       unfolding pointer_of
-      pointer_sound d p h is = let r = some_then (value_of ctx d) pointed p h in pointed_is r.0 p r.2 (value_sound f ctx blocks st good types slots d r.0 r.1 is)
+      pointer_sound d p h is = let r = some_then (value_of ctx d) pointed p h in pointed_is r.0 p r.2 (value_sound f ctx blocks st good
+          types slots d r.0 r.1 is)
 
-      pub binary_sound : (o : Binary) (x y : Derived) → Sound f st ctx.first (binary ctx o x y) (λ d. IsDerived f ctx blocks st x → IsDerived f ctx blocks st y → IsDerived f ctx blocks st d)
+      pub binary_sound : (o : Binary) (x y : Derived) → Sound f st ctx.first (binary ctx o x y) (λ d. IsDerived f ctx blocks st x
+          → IsDerived f ctx blocks st y → IsDerived f ctx blocks st d)
       unfolding binary
       binary_sound o x y =
           then_sound f st ctx.first _ _ (λ a. value_of ctx x ≡ Some a) _ (lift_sound f st ctx.first (value_of ctx x) _ (λ a h. h)) (λ a.
           then_sound f st ctx.first _ _ (λ b. value_of ctx y ≡ Some b) _ (lift_sound f st ctx.first (value_of ctx y) _ (λ b h. h)) (λ b.
-          weaker f st ctx.first _ _ _ (λ d q hb ha dx dy. q (value_sound f ctx blocks st good types slots x a ha dx) (value_sound f ctx blocks st good types slots y b hb dy))
-            (values_sound (family_of o) a b (family_is o))))
+          weaker f st ctx.first _ _ _ (λ d q hb ha dx dy. q (value_sound f ctx blocks st good types slots x a ha dx)
+          (value_sound f ctx blocks st good types slots y b hb dy))
+          (values_sound (family_of o) a b (family_is o))))
 
       not_value : (v : Value) (d : Derived) → not_by v ≡ Some d → IsValue f ctx blocks st v → IsDerived f ctx blocks st d
       not_value (value.Int w) d h is = subst (IsDerived f ctx blocks st) (some_derived _ d h) (negation_safe w.form _ is.1)
@@ -538,24 +578,31 @@ module _ (f : CheckedFn) (ctx : Context) (blocks : List Block) (st : State) wher
       not_value value.Null d h is = absurd cc
 
       one_sound : (o : Operator) (x d : Derived) → on_integer ctx o x ≡ Some d → IsDerived f ctx blocks st x → IsDerived f ctx blocks st d
-      one_sound o x d h is = let r = some_map (integer_of ctx x) (on_one o) d h in subst (IsDerived f ctx blocks st) r.2 (on_one_safe o r.0 (integer_sound x r.0 r.1 is))
+      one_sound o x d h is = let r = some_map (integer_of ctx x) (on_one o) d h in subst (IsDerived f ctx blocks st) r.2
+          (on_one_safe o r.0 (integer_sound x r.0 r.1 is))
 
-      pub unary_sound : (o : Unary) (x : Derived) → Sound f st ctx.first (unary ctx o x) (λ d. IsDerived f ctx blocks st x → IsDerived f ctx blocks st d)
+      pub unary_sound : (o : Unary) (x : Derived) → Sound f st ctx.first (unary ctx o x) (λ d. IsDerived f ctx blocks st x
+          → IsDerived f ctx blocks st d)
       unfolding unary
       unary_sound unary_op.Minus x = lift_sound f st ctx.first (minus ctx x) _ (λ d h is.
-          let r = some_map (integer_of ctx x) negative d h in subst (IsDerived f ctx blocks st) r.2 (negative_safe r.0 (integer_sound x r.0 r.1 is)))
-      unary_sound unary_op.Complement x = lift_sound f st ctx.first (on_integer ctx operator.Complement x) _ (λ d h is. one_sound operator.Complement x d h is)
-      unary_sound unary_op.Plus x = lift_sound f st ctx.first (on_integer ctx operator.Plus x) _ (λ d h is. one_sound operator.Plus x d h is)
+          let r = some_map (integer_of ctx x) negative d h in subst (IsDerived f ctx blocks st) r.2
+          (negative_safe r.0 (integer_sound x r.0 r.1 is)))
+      unary_sound unary_op.Complement x = lift_sound f st ctx.first (on_integer ctx operator.Complement x) _
+          (λ d h is. one_sound operator.Complement x d h is)
+      unary_sound unary_op.Plus x = lift_sound f st ctx.first (on_integer ctx operator.Plus x) _ (λ d h is. one_sound operator.Plus x d h
+          is)
       unary_sound unary_op.Not x = lift_sound f st ctx.first (not_of ctx x) _ (λ d h is.
           let r = some_then (value_of ctx x) not_by d h in not_value r.0 d r.2 (value_sound f ctx blocks st good types slots x r.0 r.1 is))
       unary_sound unary_op.Dereference x =
           then_sound f st ctx.first _ _ (λ p. pointer_of ctx x ≡ Some p) _ (lift_sound f st ctx.first (pointer_of ctx x) _ (λ p h. h)) (λ p.
           weaker f st ctx.first _ _ _ (λ d q h is. q (pointer_sound x p h is)) (followed_sound f ctx blocks st good types p))
-      unary_sound unary_op.Address x = lift_sound f st ctx.first (address_of ctx x) _ (λ d h is. address_sound f ctx blocks st good types x d h is)
+      unary_sound unary_op.Address x = lift_sound f st ctx.first (address_of ctx x) _ (λ d h is. address_sound f ctx blocks st good types x
+          d h is)
 
       pub cast_sound : (t : TypeName) (x d : Derived) → cast ctx t x ≡ Some d → IsDerived f ctx blocks st x → IsDerived f ctx blocks st d
       unfolding cast integer_type
       cast_sound t x d h is =
           let s = some_then (integer_type t) (λ s. cast_by ctx s x) d h in
           let r = some_map (integer_of ctx x) (cast_to s.0) d s.2 in
-          subst (IsDerived f ctx blocks st) r.2 (cast_safe s.0 r.0 (base_integer t.base s.0 (starless_is t.stars (base_scalar t.base) s.0 s.1)) (integer_sound x r.0 r.1 is))
+          subst (IsDerived f ctx blocks st) r.2 (cast_safe s.0 r.0 (base_integer t.base s.0 (starless_is t.stars (base_scalar t.base) s.0
+          s.1)) (integer_sound x r.0 r.1 is))

@@ -110,7 +110,8 @@ module _ (f : CheckedFn) (ctx : Context) (blocks : List Block) (st : State) (goo
       only zero size a l = omega arith
       only (suc i) size a l = let more : (suc i + 1) * size ≡ suc i * size + size = grind arith in omega (arith, more, l)
 
-  address_is_sound : (p : Place) (key : Element) → Safe (eval [] f st p.form) (λ z. (a : ℕ) × (z ≡ pos a) × HasValue st p.at z × IsElementAt ctx blocks key a)
+  address_is_sound : (p : Place) (key : Element) → Safe (eval [] f st p.form) (λ z. (a : ℕ) × (z ≡ pos a) × HasValue st p.at z
+      × IsElementAt ctx blocks key a)
       → IsDerived f ctx blocks st (address_at ctx p key)
   address_is_sound p key d = safe_same _ _ _ (eval-AddressOf f st p.form) (safe_weaker (eval [] f st p.form) _ _ d (λ z e is.
       let a : ℕ = is.0 in
@@ -132,12 +133,14 @@ module _ (f : CheckedFn) (ctx : Context) (blocks : List Block) (st : State) (goo
         low = is.2;
         hi = z +ℤ pos size;
         high = has_beyond st p.at z (pos size) is.2;
-        fits = subst (λ (y : ℤ). Reaches blocks ctx.table.elems ctx.table.structs (key_shape ctx.table key) false y (y +ℤ pos size) y) (sym is.1) (between refl b);
+        fits = subst (λ (y : ℤ). Reaches blocks ctx.table.elems ctx.table.structs (key_shape ctx.table key) false y (y +ℤ pos size) y)
+            (sym is.1) (between refl b);
         sure = λ g n. zero_not a (omega (arith, from, first)) (sym is.1 ∙ n);
       }))
 
   -- a member that has an address is open, and is an element of its type
-  by_member : (e : CheckedExpr) (s m : ℕ) (key : Element) (a : ℕ) → addressed_member ctx s m ≡ Some key → IsMemberAt ctx blocks st e s m a → IsElementAt ctx blocks key a
+  by_member : (e : CheckedExpr) (s m : ℕ) (key : Element) (a : ℕ) → addressed_member ctx s m ≡ Some key → IsMemberAt ctx blocks st e s m a
+      → IsElementAt ctx blocks key a
   unfolding addressed_member is_tag is_named
   by_member e s m key a h at =
       let x = some_then (member ctx.table s m) _ key h in
@@ -146,30 +149,39 @@ module _ (f : CheckedFn) (ctx : Context) (blocks : List Block) (st : State) (goo
       let w : at.member ≡ x.0 = some_same at.member x.0 (sym at.member_is ∙ ap (λ (t : StructShape). slice_get t.members m) u ∙ k.2) in
       let free' : has_address ctx s m x.0 ≡ true = if_holds (has_address ctx s m x.0) (member_key ctx.table s m) key x.2 in
       let typed : member_key ctx.table s m ≡ Some key = if_some (has_address ctx s m x.0) (member_key ctx.table s m) key x.2 in
-      let facts : IsMemberOf ctx.table s at.structure m at.member = (types.structs s at.structure at.structure_is).members m at.member at.member_is in
+      let facts : IsMemberOf ctx.table s at.structure m at.member = (types.structs s at.structure at.structure_is).members m at.member
+      at.member_is in
       let type = facts.typed key typed in
       let free : is_open at.structure m at.member ≡ true = open_of s m at.structure at.structure_is at.member
-          (subst (λ (y : Member). has_address ctx s m y ≡ true) (sym w) free') in
+      (subst (λ (y : Member). has_address ctx s m y ≡ true) (sym w) free') in
       let some = facts.some in
-      let o = member_open ctx.table types blocks st.memory at.lies.block (struct_block f ctx blocks st good types s at.struct_at at.lies) s at.struct_at at.lies.place
-          at.structure at.structure_is m at.member at.member_is free 0 some in
+      let o = member_open ctx.table types blocks st.memory at.lies.block (struct_block f ctx blocks st good types s at.struct_at at.lies) s
+      at.struct_at at.lies.place
+      at.structure at.structure_is m at.member at.member_is free 0 some in
       record {
         block = at.lies.block;
         granted = at.lies.granted;
         no_text = at.lies.no_text;
         type_is = type.1;
-        place = subst (λ (n : ℕ). IsOpenAt ctx.table.elems ctx.table.structs at.lies.block (key_shape ctx.table key) n) (first (shape_size ctx.table.structs at.member.shape) at.struct_at at.member.offset at.at)
-          (subst (λ (y : Shape). IsOpenAt ctx.table.elems ctx.table.structs at.lies.block y (at.struct_at + at.member.offset + 0 * shape_size ctx.table.structs at.member.shape)) type.0 o);
+        place = subst (λ (n : ℕ). IsOpenAt ctx.table.elems ctx.table.structs at.lies.block (key_shape ctx.table key) n)
+            (first (shape_size ctx.table.structs at.member.shape) at.struct_at at.member.offset at.at)
+            (subst (λ (y : Shape). IsOpenAt ctx.table.elems ctx.table.structs at.lies.block y (at.struct_at + at.member.offset + 0 *
+            shape_size ctx.table.structs at.member.shape)) type.0 o);
       }
     where
       first : (size s o : ℕ) → a ≡ s + o → s + o + 0 * size ≡ a
       first size s o e = omega (arith, e)
-      open_of : (s m : ℕ) (t : StructShape) → slice_get ctx.table.structs s ≡ Some t → (y : Member) → has_address ctx s m y ≡ true → is_open t m y ≡ true
-      open_of s m t is y h =
-          subst (λ (o : Option StructShape). (is_none y.arm && (not (list_any (λ u. u.tag == m) (unwrap_or (option_map (λ (x : StructShape). x.unions) o) [])) && (not (has_names y.shape)
-            && not (list_any (λ x. shape_names m x.shape) (unwrap_or (option_map (λ (x : StructShape). x.members) o) []))))) ≡ true) is h
 
-  address_place : (e : CheckedExpr) (x : Source) (key : Element) (a : ℕ) → addressed ctx x ≡ Some key → LiesAt ctx blocks st e x a → IsElementAt ctx blocks key a
+      open_of : (s m : ℕ) (t : StructShape) → slice_get ctx.table.structs s ≡ Some t → (y : Member) → has_address ctx s m y ≡ true
+          → is_open t m y ≡ true
+      open_of s m t is y h =
+          subst (λ (o : Option StructShape).
+          (is_none y.arm && (not (list_any (λ u. u.tag == m) (unwrap_or (option_map (λ (x : StructShape). x.unions) o) [])) &&
+          (not (has_names y.shape)
+          && not (list_any (λ x. shape_names m x.shape) (unwrap_or (option_map (λ (x : StructShape). x.members) o) []))))) ≡ true) is h
+
+  address_place : (e : CheckedExpr) (x : Source) (key : Element) (a : ℕ) → addressed ctx x ≡ Some key → LiesAt ctx blocks st e x a
+      → IsElementAt ctx blocks key a
   unfolding addressed
   address_place e (source.Element k) key a h l = subst (λ (k : Element). IsElementAt ctx blocks k a) (some_same k key h) l
   address_place e source.Text key a h l = absurd cc
@@ -179,7 +191,8 @@ module _ (f : CheckedFn) (ctx : Context) (blocks : List Block) (st : State) (goo
   unfolding address_of address_of_place
   address_sound (derived.Place p) d h is =
       let r = some_map (addressed ctx p.source) _ d h in
-      subst (IsDerived f ctx blocks st) r.2 (address_is_sound p r.0 (safe_weaker (eval [] f st p.form) _ _ is (λ z e l. (l.address, l.is, l.at, address_place p.form p.source r.0 l.address r.1 l.lies))))
+      subst (IsDerived f ctx blocks st) r.2 (address_is_sound p r.0 (safe_weaker (eval [] f st p.form) _ _ is
+      (λ z e l. (l.address, l.is, l.at, address_place p.form p.source r.0 l.address r.1 l.lies))))
   address_sound (derived.Value v) d h is = absurd cc
   address_sound (derived.Local slot) d h is = absurd cc
   address_sound (derived.Array a) d h is = absurd cc
@@ -206,7 +219,16 @@ module _ (f : CheckedFn) (ctx : Context) (blocks : List Block) (st : State) (goo
         low = has_constant st (pos b.base);
         hi = pos b.base;
         high = has_constant st (pos b.base);
-        fits = into_text refl (record { block = g.block; granted = g.granted; text = text; at = b.base; is = refl; from = omega (arith, base); below = omega (arith, base, ends, count, some) });
+        fits = into_text refl (record {
+          block = g.block;
+          granted = g.granted;
+          text = text;
+          at = b.base;
+          is = refl;
+          from = omega
+              (arith, base);
+          below = omega (arith, base, ends, count, some);
+        });
         sure = λ e. zero_not b.base (omega (arith, base, first));
       })
 
@@ -263,7 +285,8 @@ module _ (f : CheckedFn) (ctx : Context) (blocks : List Block) (st : State) (goo
   not_unsigned false P h k = k refl
 
   stays_low : (how : PointerSum) (s : Scalar) (size : ℕ) (lo v n : ℤ) → IsTrue (is_of s n) → IsTrue (int_le lo v)
-      → (may_fall how (is_unsigned s) ≡ true → IsTrue (int_le lo (v +ℤ offset_of how size n))) → IsTrue (int_le lo (v +ℤ offset_of how size n))
+      → (may_fall how (is_unsigned s) ≡ true → IsTrue (int_le lo (v +ℤ offset_of how size n)))
+      → IsTrue (int_le lo (v +ℤ offset_of how size n))
   stays_low pointer_sum.PointerPlus s size lo v n range h k =
       not_unsigned (is_unsigned s) _ (λ e. up_at_least lo v (pos size *ℤ n) h (natural_offset size n (unsigned_natural s n e range))) k
   stays_low pointer_sum.PlusPointer s size lo v n range h k =
@@ -271,7 +294,8 @@ module _ (f : CheckedFn) (ctx : Context) (blocks : List Block) (st : State) (goo
   stays_low pointer_sum.PointerMinus s size lo v n range h k = k refl
 
   stays_high : (how : PointerSum) (s : Scalar) (size : ℕ) (hi v n : ℤ) → IsTrue (is_of s n) → IsTrue (int_le v hi)
-      → (may_rise how (is_unsigned s) ≡ true → IsTrue (int_le (v +ℤ offset_of how size n) hi)) → IsTrue (int_le (v +ℤ offset_of how size n) hi)
+      → (may_rise how (is_unsigned s) ≡ true → IsTrue (int_le (v +ℤ offset_of how size n) hi))
+      → IsTrue (int_le (v +ℤ offset_of how size n) hi)
   stays_high pointer_sum.PointerPlus s size hi v n range h k = k refl
   stays_high pointer_sum.PlusPointer s size hi v n range h k = k refl
   stays_high pointer_sum.PointerMinus s size hi v n range h k =
@@ -285,13 +309,16 @@ module _ (f : CheckedFn) (ctx : Context) (blocks : List Block) (st : State) (goo
     pub some : 0 < at
     pub fits : Reaches blocks ctx.table.elems ctx.table.structs own false lo hi w
 
-  moves : (own : Shape) (lo hi v d : ℤ) → Reaches blocks ctx.table.elems ctx.table.structs own false lo hi v → v ≢ pos 0 → Step (shape_size ctx.table.structs own) d
+  moves : (own : Shape) (lo hi v d : ℤ) → Reaches blocks ctx.table.elems ctx.table.structs own false lo hi v → v ≢ pos 0
+      → Step (shape_size ctx.table.structs own) d
       → IsTrue (int_le lo (v +ℤ d)) → IsTrue (int_le (v +ℤ d) hi) → IsMoved own lo hi (v +ℤ d)
   moves own lo hi v d fits n step low high =
       let i = in_block f ctx blocks st good types own lo hi v fits n in
       let b : IsBetween blocks ctx.table.elems ctx.table.structs own lo hi v = i.bounded in
-      let l = lands (shape_size ctx.table.structs own) b.from b.at v d step b.at_is b.above b.whole (subst (λ (y : ℤ). IsTrue (int_le y (v +ℤ d))) b.from_is low) in
-      let below : l.at ≤ b.to = le_pos l.at b.to (subst (λ (y : ℤ). IsTrue (int_le y (pos b.to))) l.is (subst (λ (y : ℤ). IsTrue (int_le (v +ℤ d) y)) b.to_is high)) in
+      let l = lands (shape_size ctx.table.structs own) b.from b.at v d step b.at_is b.above b.whole
+      (subst (λ (y : ℤ). IsTrue (int_le y (v +ℤ d))) b.from_is low) in
+      let below : l.at ≤ b.to = le_pos l.at b.to (subst (λ (y : ℤ). IsTrue (int_le y (pos b.to))) l.is
+      (subst (λ (y : ℤ). IsTrue (int_le (v +ℤ d) y)) b.to_is high)) in
       let end = b.to_in in
       let most = i.block.to in
       let first = i.block.from in
@@ -303,25 +330,42 @@ module _ (f : CheckedFn) (ctx : Context) (blocks : List Block) (st : State) (goo
         small = omega (arith, below, end, most);
         some = omega (arith, above, from, first);
         fits = between refl (record {
-          block = b.block; granted = b.granted; no_text = b.no_text; from = b.from; from_is = b.from_is; to = b.to; to_is = b.to_is;
-          at = l.at; at_is = l.is; above = l.above; below = below; whole = l.whole; from_in = b.from_in; to_in = b.to_in; elements = b.elements;
+          block = b.block;
+          granted = b.granted;
+          no_text = b.no_text;
+          from = b.from;
+          from_is = b.from_is;
+          to = b.to;
+          to_is = b.to_is;
+          at = l.at;
+          at_is = l.is;
+          above = l.above;
+          below = below;
+          whole = l.whole;
+          from_in = b.from_in;
+          to_in = b.to_in;
+          elements = b.elements;
         });
       }
 
-  lowest : (own : Shape) (lo hi v : ℤ) → Reaches blocks ctx.table.elems ctx.table.structs own false lo hi v → v ≢ pos 0 → IsTrue (int_le lo v)
+  lowest : (own : Shape) (lo hi v : ℤ) → Reaches blocks ctx.table.elems ctx.table.structs own false lo hi v → v ≢ pos 0
+      → IsTrue (int_le lo v)
   lowest own lo hi v fits n =
       let b = (in_block f ctx blocks st good types own lo hi v fits n).bounded in
-      subst (λ (y : ℤ). IsTrue (int_le y v)) (sym b.from_is) (subst (λ (y : ℤ). IsTrue (int_le (pos b.from) y)) (sym b.at_is) (pos_le b.from b.at b.above))
+      subst (λ (y : ℤ). IsTrue (int_le y v)) (sym b.from_is) (subst (λ (y : ℤ). IsTrue (int_le (pos b.from) y)) (sym b.at_is)
+      (pos_le b.from b.at b.above))
 
-  highest : (own : Shape) (lo hi v : ℤ) → Reaches blocks ctx.table.elems ctx.table.structs own false lo hi v → v ≢ pos 0 → IsTrue (int_le v hi)
+  highest : (own : Shape) (lo hi v : ℤ) → Reaches blocks ctx.table.elems ctx.table.structs own false lo hi v → v ≢ pos 0
+      → IsTrue (int_le v hi)
   highest own lo hi v fits n =
       let b = (in_block f ctx blocks st good types own lo hi v fits n).bounded in
-      subst (λ (y : ℤ). IsTrue (int_le v y)) (sym b.to_is) (subst (λ (y : ℤ). IsTrue (int_le y (pos b.to))) (sym b.at_is) (pos_le b.at b.to b.below))
+      subst (λ (y : ℤ). IsTrue (int_le v y)) (sym b.to_is) (subst (λ (y : ℤ). IsTrue (int_le y (pos b.to))) (sym b.at_is)
+      (pos_le b.at b.to b.below))
 
   abbrev Moves : PointerSum → Pointed → Whole → ℕ → List ℕ → Type 0
   Moves how p i size ids = (v n : ℤ) (is : IsPointer ctx blocks st p v) → IsWhole st i n
       → Pass f st ids ((v ≢ pos 0) × (may_fall how (is_unsigned i.scalar) ≡ true → IsTrue (int_le is.lo (v +ℤ offset_of how size n)))
-        × (may_rise how (is_unsigned i.scalar) ≡ true → IsTrue (int_le (v +ℤ offset_of how size n) is.hi)))
+      × (may_rise how (is_unsigned i.scalar) ≡ true → IsTrue (int_le (v +ℤ offset_of how size n) is.hi)))
 
   flat : {A B C : Type 0} → (A × B) × C → A × B × C
   flat p = (p.0.0, p.0.1, p.1)
@@ -339,13 +383,15 @@ module _ (f : CheckedFn) (ctx : Context) (blocks : List Block) (st : State) (goo
       then_sound f st ctx.first _ _ _ _ (below_sound f ctx blocks st (may_fall how (is_unsigned i.scalar)) p.low at) (λ b.
       then_sound f st ctx.first _ _ _ _ (above_sound f ctx blocks st (may_rise how (is_unsigned i.scalar)) at p.high) (λ c.
       pure_sound f st ctx.first ((a ++ b) ++ c) _ (λ above below null v n is whole.
-          let w : ℤ = v +ℤ offset_of how size n in
-          let h = sum_has how p i size v n is whole in
-          safe_weaker (tests [] f st ((a ++ b) ++ c)) _ _
-          (pass_then f st (a ++ b) c ((v ≢ pos 0) × (may_fall how (is_unsigned i.scalar) ≡ true → IsTrue (int_le is.lo w))) (may_rise how (is_unsigned i.scalar) ≡ true → IsTrue (int_le w is.hi))
-            (pass_then f st a b (v ≢ pos 0) (may_fall how (is_unsigned i.scalar) ≡ true → IsTrue (int_le is.lo w)) (null v is) (λ some. below is.lo w is.low h))
-            (λ both. above w is.hi h is.high))
-          (λ u e l. flat l)))))
+      let w : ℤ = v +ℤ offset_of how size n in
+      let h = sum_has how p i size v n is whole in
+      safe_weaker (tests [] f st ((a ++ b) ++ c)) _ _
+      (pass_then f st (a ++ b) c ((v ≢ pos 0) × (may_fall how (is_unsigned i.scalar) ≡ true → IsTrue (int_le is.lo w)))
+      (may_rise how (is_unsigned i.scalar) ≡ true → IsTrue (int_le w is.hi))
+      (pass_then f st a b (v ≢ pos 0) (may_fall how (is_unsigned i.scalar) ≡ true → IsTrue (int_le is.lo w)) (null v is)
+      (λ some. below is.lo w is.low h))
+      (λ both. above w is.hi h is.high))
+      (λ u e l. flat l)))))
 
   -- both parts, left to right
   parts_safe : (how : PointerSum) (r t : Got) (P Q : ℤ → Type 0) → Safe r P → Safe t Q → Safe (parts how r t) (λ x. P x.0 × Q x.1)
@@ -354,7 +400,8 @@ module _ (f : CheckedFn) (ctx : Context) (blocks : List Block) (st : State) (goo
   parts_safe pointer_sum.PointerMinus r t P Q p q = safe_bind r _ P _ p (λ v is. safe_bind t _ Q _ q (λ n in'. (is, in')))
 
   pub moved_sound : (how : PointerSum) (p : Pointed) (i : Whole) → p.nullterm ≡ false
-      → Sound f st ctx.first (moved ctx how p i) (λ d. IsValue f ctx blocks st (value.Pointer p) → IsValue f ctx blocks st (value.Int i) → IsDerived f ctx blocks st d)
+      → Sound f st ctx.first (moved ctx how p i) (λ d. IsValue f ctx blocks st (value.Pointer p) → IsValue f ctx blocks st (value.Int i)
+      → IsDerived f ctx blocks st d)
   unfolding moved
   moved_sound how p i plain =
       let size : ℕ = size_of ctx p.elem in
@@ -362,7 +409,8 @@ module _ (f : CheckedFn) (ctx : Context) (blocks : List Block) (st : State) (goo
       let at : Sum = moved_sum p.at i (step_size how size) in
       then_sound f st ctx.first _ _ _ _ (move_checks_sound how p i size) (λ ids. pure_sound f st ctx.first _ _ (λ passes known whole.
       safe_same _ _ _ (eval-Moved f st how p.form i.form size ids)
-      (safe_bind (parts how (eval [] f st p.form) (eval [] f st i.form)) _ _ _ (parts_safe how (eval [] f st p.form) (eval [] f st i.form) _ _ known whole.1) (λ x is.
+      (safe_bind (parts how (eval [] f st p.form) (eval [] f st i.form)) _ _ _ (parts_safe how (eval [] f st p.form) (eval [] f st i.form)
+      _ _ known whole.1) (λ x is.
       let v : ℤ = x.0 in
       let n : ℤ = x.1 in
       let here : IsPointer ctx blocks st p v = is.0 in
@@ -371,7 +419,8 @@ module _ (f : CheckedFn) (ctx : Context) (blocks : List Block) (st : State) (goo
       let w : ℤ = v +ℤ offset_of how size n in
       let low = stays_low how i.scalar size here.lo v n is.1.range (lowest own here.lo here.hi v fits l.0) l.1 in
       let high = stays_high how i.scalar size here.hi v n is.1.range (highest own here.lo here.hi v fits l.0) l.2 in
-      let m = moves own here.lo here.hi v (offset_of how size n) fits l.0 (subst (λ (k : ℕ). Step k (offset_of how size n)) (sym (types.bytes p.elem)) (step_is how size n)) low high in
+      let m = moves own here.lo here.hi v (offset_of how size n) fits l.0 (subst (λ (k : ℕ). Step k (offset_of how size n))
+      (sym (types.bytes p.elem)) (step_is how size n)) low high in
       safe_same _ _ _ (ap address (moved_is how size v n) ∙ address_is w m.at m.is m.small)
       (record {
         type_is = here.type_is;

@@ -102,7 +102,8 @@ fewer size from at w k n l e h = by (nat_le n k) refl
         let more : k * size ≤ n * size = mul-le k size n size less (omega arith) in
         (0, omega (arith, more, h, e, l))
 
-pub lands : (size from at : ℕ) (v d : ℤ) → Step size d → v ≡ pos at → from ≤ at → IsMultiple size (at - from) → IsTrue (int_le (pos from) (v +ℤ d)) → HasLanded size from (v +ℤ d)
+pub lands : (size from at : ℕ) (v d : ℤ) → Step size d → v ≡ pos at → from ≤ at → IsMultiple size (at - from)
+    → IsTrue (int_le (pos from) (v +ℤ d)) → HasLanded size from (v +ℤ d)
 lands size from at v d (forward n e) is above whole low =
     let split : (whole.0 + n) * size ≡ whole.0 * size + n * size = spread whole.0 n size in
     let count : at - from ≡ whole.0 * size = whole.1 in
@@ -120,8 +121,10 @@ lands size from at v d (backward n e) is above whole low =
     record { at = w.number; is = w.is; above = l; whole = fewer size from at w.number whole.0 n l sum whole.1 }
 
 -- what lies there, where a whole element ends within the bounds
-pub open_there : (blocks : List Block) (elems : List Shape) (structs : List StructShape) (own : Shape) (lo hi v : ℤ) (b : IsBetween blocks elems structs own lo hi v) (at : ℕ)
-    → b.from ≤ at → IsMultiple (shape_size structs own) (at - b.from) → at + shape_size structs own ≤ b.to → IsOpenAt elems structs b.block own at
+pub open_there : (blocks : List Block) (elems : List Shape) (structs : List StructShape) (own : Shape) (lo hi v : ℤ)
+    (b : IsBetween blocks elems structs own lo hi v) (at : ℕ)
+    → b.from ≤ at → IsMultiple (shape_size structs own) (at - b.from) → at + shape_size structs own ≤ b.to → IsOpenAt elems structs b.block
+    own at
 open_there blocks elems structs own lo hi v b at above whole ends =
     let n : ℕ = shape_size structs own in
     let count : at - b.from ≡ whole.0 * n = whole.1 in

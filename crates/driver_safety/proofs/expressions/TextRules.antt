@@ -55,10 +55,12 @@ one_clear bytes a h = by (drop a bytes) refl
   where
     here : a ≡ a + 0
     here = omega arith
+
     by : (l : List ℕ) → drop a bytes ≡ l → list_all (λ b. b == 0) (take 1 l) ≡ true
     by [] e = refl
     by (x ∷ xs) e =
-        let z : x ≡ 0 = sym (ap (λ (l : List ℕ). get_or l 0 0) e) ∙ get_or-drop a bytes 0 0 ∙ subst (λ (n : ℕ). slice_index_or bytes n 0 ≡ 0) here h in
+        let z : x ≡ 0 = sym (ap (λ (l : List ℕ). get_or l 0 0) e) ∙ get_or-drop a bytes 0 0
+        ∙ subst (λ (n : ℕ). slice_index_or bytes n 0 ≡ 0) here h in
         ap (λ (n : ℕ). (n == 0) && true) z
 
 zero_not : (a : ℕ) → 0 < a → pos a ≡ pos 0 → ⊥
@@ -81,6 +83,7 @@ module _ (f : CheckedFn) (ctx : Context) (blocks : List Block) (st : State) (goo
     where
       block : IsBlock ctx.table blocks st.memory t.block
       block = good.memory.each t.block t.granted
+
       by : (b : Bool) → nat_lt (t.at + 1) (block_end t.block) ≡ b → IsInText blocks (v +ℤ pos 1)
       by true e =
           let from = t.from in
@@ -97,7 +100,8 @@ module _ (f : CheckedFn) (ctx : Context) (blocks : List Block) (st : State) (goo
           let below = t.below in
           let last : block_end t.block ≤ t.at + 1 = grind arith in
           let here : block_end t.block - 1 ≡ t.at = omega (arith, below, last) in
-          let zero' : slice_index_or st.memory.bytes t.at 0 ≡ 0 = subst (λ (n : ℕ). slice_index_or st.memory.bytes n 0 ≡ 0) here (block.ends t.text) in
+          let zero' : slice_index_or st.memory.bytes t.at 0 ≡ 0 = subst (λ (n : ℕ). slice_index_or st.memory.bytes n 0 ≡ 0) here
+          (block.ends t.text) in
           let clear : clear_at st v 1 ≡ true = ap (λ (z : ℤ). clear_at st z 1) t.is ∙ one_clear st.memory.bytes t.at zero' in
           absurd (true≢false (sym clear ∙ some))
 
@@ -109,6 +113,7 @@ module _ (f : CheckedFn) (ctx : Context) (blocks : List Block) (st : State) (goo
       both_second : (a b : Bool) → (a && b) ≡ true → b ≡ true
       both_second true b h = h
       both_second false b h = absurd cc
+
       by : (w : Written) → i.written ≡ w → is_written n w ≡ true → z ≡ pos n
       by (written.Number m plain) e h =
           let same : m ≡ n = (Decides-eqb m n).0 (both_second plain (m == n) h) in
@@ -127,10 +132,11 @@ module _ (f : CheckedFn) (ctx : Context) (blocks : List Block) (st : State) (goo
   ended_sound : (wanted : Bool) (at : Sum) → Sound f st ctx.first (not_ended ctx wanted at)
       (λ ids. (v : ℤ) → HasValue st at v → IsInText blocks v → Pass f st ids (wanted ≡ true → clear_at st v 1 ≡ false))
   ended_sound false at = pure_sound f st ctx.first [] _ (λ v h t. pass_none f st _ (λ e. absurd cc))
-  ended_sound true at = then_sound f st ctx.first _ _ _ _ (ask_sound f st ctx kind.Term (cond.Term at None)) (λ id. pure_sound f st ctx.first (id ∷ []) _ (λ tested v h t.
+  ended_sound true at = then_sound f st ctx.first _ _ _ _ (ask_sound f st ctx kind.Term (cond.Term at None))
+      (λ id. pure_sound f st ctx.first (id ∷ []) _ (λ tested v h t.
       pass_one f st id _ (safe_weaker (test f st (check_of f id)) _ _
-        (tested.tested (h.read, tt, subst (λ (z : ℤ). IsInside st z 1) (sym h.is) (text_inside v t)))
-        (λ u e passed w. not_clear (clear_at st v 1) (subst (λ (z : ℤ). IsTrue (not (clear_at st z 1) || false)) h.is passed)))))
+      (tested.tested (h.read, tt, subst (λ (z : ℤ). IsInside st z 1) (sym h.is) (text_inside v t)))
+      (λ u e passed w. not_clear (clear_at st v 1) (subst (λ (z : ℤ). IsTrue (not (clear_at st z 1) || false)) h.is passed)))))
     where
       not_clear : (b : Bool) → IsTrue (not b || false) → b ≡ false
       not_clear false h = refl
@@ -141,13 +147,16 @@ module _ (f : CheckedFn) (ctx : Context) (blocks : List Block) (st : State) (goo
       (subst (λ (b : Bool). Reaches blocks ctx.table.elems ctx.table.structs (key_shape ctx.table p.elem) b is.lo is.hi v) text is.fits) n
 
   abbrev Checked : Pointed → Whole → List ℕ → Type 0
-  Checked p i ids = (v : ℤ) → IsPointer ctx blocks st p v → p.nullterm ≡ true → Pass f st ids ((v ≢ pos 0) × (is_written 1 i.written ≡ true → clear_at st v 1 ≡ false))
+  Checked p i ids = (v : ℤ) → IsPointer ctx blocks st p v → p.nullterm ≡ true → Pass f st ids ((v ≢ pos 0) × (is_written 1 i.written ≡ true
+      → clear_at st v 1 ≡ false))
 
   text_checks_sound : (p : Pointed) (i : Whole) → Sound f st ctx.first (text_checks ctx p i) (Checked p i)
   text_checks_sound p i =
-      then_sound f st ctx.first _ _ _ _ (not_null_sound f ctx blocks st p) (λ a. then_sound f st ctx.first _ _ _ _ (ended_sound (is_written 1 i.written) p.at) (λ b.
+      then_sound f st ctx.first _ _ _ _ (not_null_sound f ctx blocks st p) (λ a. then_sound f st ctx.first _ _ _ _
+      (ended_sound (is_written 1 i.written) p.at) (λ b.
       pure_sound f st ctx.first (a ++ b) _ (λ ended null v is text.
-          pass_then f st a b (v ≢ pos 0) (is_written 1 i.written ≡ true → clear_at st v 1 ≡ false) (null v is) (λ n. ended v is.at (in_text p v is text n)))))
+      pass_then f st a b (v ≢ pos 0) (is_written 1 i.written ≡ true → clear_at st v 1 ≡ false) (null v is)
+      (λ n. ended v is.at (in_text p v is text n)))))
 
   -- a number of bytes that is 0 or 1
   abbrev IsBit : Whole → Type 0
@@ -156,46 +165,61 @@ module _ (f : CheckedFn) (ctx : Context) (blocks : List Block) (st : State) (goo
   byte_size : (key : Element) → key ≡ element.Int U8 → size_of ctx key ≡ 1
   byte_size key e = ap (size_of ctx) e
 
-  moved_text : (p : Pointed) (i : Whole) (v n : ℤ) (is : IsPointer ctx blocks st p v) → p.nullterm ≡ true → IsWhole st i n → IsBit i → v ≢ pos 0
+  moved_text : (p : Pointed) (i : Whole) (v n : ℤ) (is : IsPointer ctx blocks st p v) → p.nullterm ≡ true → IsWhole st i n → IsBit i
+      → v ≢ pos 0
       → (is_written 1 i.written ≡ true → clear_at st v 1 ≡ false) → IsInText blocks (v +ℤ (pos (size_of ctx p.elem) *ℤ n))
   moved_text p i v n is text whole (true, e, h) some ended =
       let none : n ≡ pos 0 = written_is 0 i n e whole in
-      subst (IsInText blocks) (sym (ap (λ (y : ℤ). v +ℤ (pos (size_of ctx p.elem) *ℤ y)) none ∙ same v (size_of ctx p.elem))) (in_text p v is text some)
+      subst (IsInText blocks) (sym (ap (λ (y : ℤ). v +ℤ (pos (size_of ctx p.elem) *ℤ y)) none ∙ same v (size_of ctx p.elem)))
+      (in_text p v is text some)
     where
       same : (v : ℤ) (size : ℕ) → v +ℤ (pos size *ℤ pos 0) ≡ v
       same v size = ap (λ (m : ℕ). v +ℤ pos m) (times_zero size) ∙ plus v
         where
           times_zero : (size : ℕ) → size * 0 ≡ 0
           times_zero size = omega arith
+
           plus : (v : ℤ) → v +ℤ pos 0 ≡ v
           plus v = omega (arith, ints)
   moved_text p i v n is text whole (false, e, h) some ended =
       let one : n ≡ pos 1 = written_is 1 i n (h refl) whole in
       let size : size_of ctx p.elem ≡ 1 = byte_size p.elem (is.text text) in
-      subst (IsInText blocks) (sym (ap (λ (y : ℤ). v +ℤ (pos (size_of ctx p.elem) *ℤ y)) one ∙ ap (λ (m : ℕ). v +ℤ (pos m *ℤ pos 1)) size)) (next_text v (in_text p v is text some) (ended (h refl)))
+      subst (IsInText blocks) (sym (ap (λ (y : ℤ). v +ℤ (pos (size_of ctx p.elem) *ℤ y)) one ∙ ap (λ (m : ℕ). v +ℤ (pos m *ℤ pos 1)) size))
+      (next_text v (in_text p v is text some) (ended (h refl)))
 
   text_to_sound : (p : Pointed) (i : Whole) → Sound f st ctx.first (text_moved ctx p i)
-      (λ q. p.nullterm ≡ true → IsBit i → IsValue f ctx blocks st (value.Pointer p) → IsValue f ctx blocks st (value.Int i) → (q.nullterm ≡ true) × IsValue f ctx blocks st (value.Pointer q))
+      (λ q. p.nullterm ≡ true → IsBit i → IsValue f ctx blocks st (value.Pointer p) → IsValue f ctx blocks st (value.Int i)
+      → (q.nullterm ≡ true) × IsValue f ctx blocks st (value.Pointer q))
   unfolding text_moved
   text_to_sound p i =
       let size : ℕ = size_of ctx p.elem in
       let at : Sum = moved_sum p.at i (pos size) in
-      then_sound f st ctx.first _ _ _ _ (text_checks_sound p i) (λ ids. pure_sound f st ctx.first _ _ (λ passes text bit known whole. (refl,
-      safe_same _ _ _ (eval-Moved f st pointer_sum.PointerPlus p.form i.form size ids)
-      (safe_bind (eval [] f st p.form >>= λ v. eval [] f st i.form >>= λ n. Ok (v, n)) _ (λ x. IsPointer ctx blocks st p x.0 × IsWhole st i x.1) _
-        (safe_bind (eval [] f st p.form) _ _ _ known (λ v is. safe_bind (eval [] f st i.form) _ _ _ whole.1 (λ n in'. (is, in'))))
-        (λ x is. safe_bind (tests [] f st ids) _ _ _ (passes x.0 is.0 text) (λ u l.
-          let w : ℤ = x.0 +ℤ (pos size *ℤ x.1) in
-          let t : IsInText blocks w = moved_text p i x.0 x.1 is.0 text is.1 bit l.0 l.1 in
-          let block : IsBlock ctx.table blocks st.memory t.block = good.memory.each t.block t.granted in
-          let below = t.below in
-          let end = block.to in
-          let first = block.from in
-          let from = t.from in
-          let small : t.at < 2 ^ 32 = omega (arith, below, end) in
-          let has : HasValue st at w = moved_has f ctx blocks st p.at x.0 i x.1 (pos size) is.0.at is.1 in
-          safe_same _ _ _ (address_is w t.at t.is small)
-          (subst (IsPointer ctx blocks st (record { form = form.Moved pointer_sum.PointerPlus p.form i.form size ids; elem = p.elem; nullterm = true; sure = true; at = at; low = at; high = at })) t.is
+      then_sound f st ctx.first _ _ _ _ (text_checks_sound p i) (λ ids. pure_sound f st ctx.first _ _ (λ passes text bit known whole. (
+        refl,
+        safe_same _ _ _ (eval-Moved f st pointer_sum.PointerPlus p.form i.form size ids)
+            (safe_bind (eval [] f st p.form >>= λ v. eval [] f st i.form >>= λ n. Ok (v, n)) _ (λ x. IsPointer ctx blocks st p x.0
+            × IsWhole st i x.1) _
+            (safe_bind (eval [] f st p.form) _ _ _ known (λ v is. safe_bind (eval [] f st i.form) _ _ _ whole.1 (λ n in'. (is, in'))))
+            (λ x is. safe_bind (tests [] f st ids) _ _ _ (passes x.0 is.0 text) (λ u l.
+            let w : ℤ = x.0 +ℤ (pos size *ℤ x.1) in
+            let t : IsInText blocks w = moved_text p i x.0 x.1 is.0 text is.1 bit l.0 l.1 in
+            let block : IsBlock ctx.table blocks st.memory t.block = good.memory.each t.block t.granted in
+            let below = t.below in
+            let end = block.to in
+            let first = block.from in
+            let from = t.from in
+            let small : t.at < 2 ^ 32 = omega (arith, below, end) in
+            let has : HasValue st at w = moved_has f ctx blocks st p.at x.0 i x.1 (pos size) is.0.at is.1 in
+            safe_same _ _ _ (address_is w t.at t.is small)
+            (subst (IsPointer ctx blocks st (record {
+              form = form.Moved pointer_sum.PointerPlus p.form i.form size ids;
+              elem = p.elem;
+              nullterm = true;
+              sure = true;
+              at = at;
+              low = at;
+              high = at;
+            })) t.is
             (record {
               type_is = is.0.type_is;
               text = λ e. is.0.text text;
@@ -207,7 +231,8 @@ module _ (f : CheckedFn) (ctx : Context) (blocks : List Block) (st : State) (goo
               high = has;
               fits = into_text refl t;
               sure = λ e n. zero_not t.at (omega (arith, first, from)) (sym t.is ∙ n);
-            }))))))))
+            }))))),
+      )))
 
   zero_bit : (i : Whole) → is_written 0 i.written ≡ true → IsBit i
   zero_bit i e = (true, e, λ g. absurd cc)
@@ -219,12 +244,14 @@ module _ (f : CheckedFn) (ctx : Context) (blocks : List Block) (st : State) (goo
   IsSum p i d = IsValue f ctx blocks st (value.Pointer p) → IsValue f ctx blocks st (value.Int i) → IsDerived f ctx blocks st d
 
   stepped_sound : (p : Pointed) (i : Whole) → p.nullterm ≡ true → IsBit i → Sound f st ctx.first (text_stepped ctx p i) (IsSum p i)
-  stepped_sound p i text bit = then_sound f st ctx.first _ _ _ _ (text_to_sound p i) (λ q. pure_sound f st ctx.first _ _ (λ is known whole. (is text bit known whole).1))
+  stepped_sound p i text bit = then_sound f st ctx.first _ _ _ _ (text_to_sound p i) (λ q. pure_sound f st ctx.first _ _
+      (λ is known whole. (is text bit known whole).1))
 
   pub text_sum_sound : (p : Pointed) (i : Whole) → p.nullterm ≡ true → Sound f st ctx.first (text_sum ctx p i) (IsSum p i)
   unfolding text_sum
   text_sum_sound p i text = if_sound f st ctx.first (is_written 0 i.written) _ _ _ (λ e. stepped_sound p i text (zero_bit i e))
-      (λ e. if_sound f st ctx.first (is_written 1 i.written) _ _ _ (λ g. stepped_sound p i text (one_bit i e g)) (λ g. none_sound f st ctx.first _))
+      (λ e. if_sound f st ctx.first (is_written 1 i.written) _ _ _ (λ g. stepped_sound p i text (one_bit i e g))
+      (λ g. none_sound f st ctx.first _))
 
   second_sound : (p : Pointed) (i : Whole) → p.nullterm ≡ true → IsBit i → Sound f st ctx.first (text_second ctx p i) (IsSum p i)
   second_sound p i text bit = then_sound f st ctx.first _ _ _ _ (text_to_sound p i) (λ q. weaker f st ctx.first _ _ _
@@ -234,8 +261,10 @@ module _ (f : CheckedFn) (ctx : Context) (blocks : List Block) (st : State) (goo
   unfolding text_indexed
   text_indexed_sound p i text = if_sound f st ctx.first (is_written 0 i.written) _ _ _
       (λ e. weaker f st ctx.first _ _ _ (λ d through known whole. through text known) (through_text_sound f ctx blocks st good types p))
-      (λ e. if_sound f st ctx.first (is_written 1 i.written) _ _ _ (λ g. second_sound p i text (one_bit i e g)) (λ g. none_sound f st ctx.first _))
+      (λ e. if_sound f st ctx.first (is_written 1 i.written) _ _ _ (λ g. second_sound p i text (one_bit i e g))
+      (λ g. none_sound f st ctx.first _))
 
   pub indexed_by_sound : (p : Pointed) (i : Whole) → Sound f st ctx.first (indexed_by ctx p i) (IsSum p i)
   unfolding indexed_by
-  indexed_by_sound p i = if_sound f st ctx.first p.nullterm _ _ _ (λ e. text_indexed_sound p i e) (λ e. indexed_sound f ctx blocks st good types p i e)
+  indexed_by_sound p i = if_sound f st ctx.first p.nullterm _ _ _ (λ e. text_indexed_sound p i e) (λ e. indexed_sound f ctx blocks st good
+      types p i e)

@@ -19,9 +19,11 @@ some_same : {A : Type 0} (a b : A) → ◌≡◌ {A = Option A} (Some a) (Some b
 some_same a b h = cc
 
 -- an open place is a place
-pub any_part : (structs : List StructShape) (at : ℕ) (x : Shape) (a : ℕ) (y : Shape) → Part structs is_open at x a y → Part structs is_any at x a y
+pub any_part : (structs : List StructShape) (at : ℕ) (x : Shape) (a : ℕ) (y : Shape) → Part structs is_open at x a y → Part structs is_any
+    at x a y
 any_part structs at x a y (whole e f) = whole e f
-any_part structs at x a y (member b s k j t m p is mem passes l e f) = member b s k j t m (any_part structs at x b (shape.Struct s) p) is mem refl l e f
+any_part structs at x a y (member b s k j t m p is mem passes l e f) = member b s k j t m (any_part structs at x b (shape.Struct s) p) is
+    mem refl l e f
 
 pub record IsWithin (b : Block) (a n : ℕ) : Type 0 where
   pub from : b.base ≤ a
@@ -56,7 +58,8 @@ module _ (t : Table) (types : HasTypes t) (blocks : List Block) (m : Memory) (b 
       record { from = omega (arith, lies.from); to = omega (arith, lies.to, bytes, size, more, next) }
 
   pub open_within : (own : Shape) (a : ℕ) → IsOpenAt t.elems t.structs b own a → IsWithin b a (shape_size t.structs own)
-  open_within own a o = part_within o.element o.place a own o.element_is o.within (any_part t.structs (b.base + o.place * b.layout.size) o.element a own o.part)
+  open_within own a o = part_within o.element o.place a own o.element_is o.within (any_part t.structs (b.base + o.place * b.layout.size)
+      o.element a own o.part)
 
   -- what lies within it is inside
   pub inside_block : (a n : ℕ) → IsWithin b a n → IsTrue (is_inside m a n)
@@ -72,22 +75,31 @@ module _ (t : Table) (types : HasTypes t) (blocks : List Block) (m : Memory) (b 
     where
       element : o.element ≡ is.shape
       element = some_same o.element is.shape (sym o.element_is ∙ is.shape_is)
-      by : (at : ℕ) (x y : Shape) → at ≡ b.base + o.place * b.layout.size → x ≡ o.element → y ≡ shape.Pointer n bs → Part t.structs is_open at x a y
+
+      by : (at : ℕ) (x y : Shape) → at ≡ b.base + o.place * b.layout.size → x ≡ o.element → y ≡ shape.Pointer n bs → Part t.structs is_open
+          at x a y
           → (sibling : ℕ → ℤ) × FitsBounds blocks t.elems t.structs sibling n bs (place_value m.bytes a (shape.Pointer n bs))
       by at x y e f g (whole p q) =
           let fit = (is.fit o.place plain o.within).whole in
           let here : a ≡ b.base + o.place * b.layout.size = p ∙ e in
-          let shape_is : is.shape ≡ shape.Pointer n bs = sym element ∙ sym f ∙ sym q ∙ g in
-          ((λ k. pos 0), subst (λ (c : ℕ). HoldsFitting blocks t.elems t.structs (λ k. pos 0) m.bytes c (shape.Pointer n bs)) (sym here)
-            (subst (λ (s : Shape). HoldsFitting blocks t.elems t.structs (λ k. pos 0) m.bytes (b.base + o.place * b.layout.size) s) shape_is fit))
+          let shape_is : is.shape ≡ shape.Pointer n bs = sym element ∙ sym f ∙ sym q ∙ g in (
+            (λ k. pos 0),
+            subst (λ (c : ℕ). HoldsFitting blocks t.elems t.structs (λ k. pos 0) m.bytes c (shape.Pointer n bs)) (sym here)
+                (subst (λ (s : Shape). HoldsFitting blocks t.elems t.structs (λ k. pos 0) m.bytes (b.base + o.place * b.layout.size) s)
+                shape_is fit),
+          )
       by at x y e f g (member c s k j u w p known mem passes l q r) =
           let fit = (is.fit o.place plain o.within).members c s k j u w
-              (subst (λ (d : ℕ). Part t.structs is_any d is.shape c (shape.Struct s)) e
-              (subst (λ (z : Shape). Part t.structs is_any at z c (shape.Struct s)) (f ∙ element) (any_part t.structs at x c (shape.Struct s) p)))
-              known mem (used_none m.bytes c u w.arm (open_no_arm u k w passes)) l in
-          (member_value m.bytes c u, subst (λ (d : ℕ). HoldsFitting blocks t.elems t.structs (member_value m.bytes c u) m.bytes d (shape.Pointer n bs)) (sym q)
-            (subst (λ (z : Shape). HoldsFitting blocks t.elems t.structs (member_value m.bytes c u) m.bytes (c + w.offset + j * shape_size t.structs w.shape) z)
-              (sym r ∙ g) fit))
+          (subst (λ (d : ℕ). Part t.structs is_any d is.shape c (shape.Struct s)) e
+          (subst (λ (z : Shape). Part t.structs is_any at z c (shape.Struct s)) (f ∙ element) (any_part t.structs at x c (shape.Struct s)
+          p)))
+          known mem (used_none m.bytes c u w.arm (open_no_arm u k w passes)) l in (
+            member_value m.bytes c u,
+            subst (λ (d : ℕ). HoldsFitting blocks t.elems t.structs (member_value m.bytes c u) m.bytes d (shape.Pointer n bs)) (sym q)
+                (subst (λ (z : Shape). HoldsFitting blocks t.elems t.structs (member_value m.bytes c u) m.bytes
+                (c + w.offset + j * shape_size t.structs w.shape) z)
+                (sym r ∙ g) fit),
+          )
 
   -- ---- the members of a struct place
   module _ (s a : ℕ) (o : IsOpenAt t.elems t.structs b (shape.Struct s) a) (u : StructShape) (known : slice_get t.structs s ≡ Some u)
@@ -99,10 +111,12 @@ module _ (t : Table) (types : HasTypes t) (blocks : List Block) (m : Memory) (b 
     struct_part = any_part t.structs (b.base + o.place * b.layout.size) o.element a (shape.Struct s) o.part
 
     pub member_within : 0 < w.count → IsWithin b (a + w.offset) (shape_size t.structs w.shape)
-    member_within some = part_within o.element o.place (a + w.offset) w.shape o.element_is o.within (member a s k 0 u w struct_part known mem refl some first_at refl)
+    member_within some = part_within o.element o.place (a + w.offset) w.shape o.element_is o.within (member a s k 0 u w struct_part known
+        mem refl some first_at refl)
 
     -- a member that is open, as a place
-    pub member_open : is_open u k w ≡ true → (j : ℕ) → j < w.count → IsOpenAt t.elems t.structs b w.shape (a + w.offset + j * shape_size t.structs w.shape)
+    pub member_open : is_open u k w ≡ true → (j : ℕ) → j < w.count → IsOpenAt t.elems t.structs b w.shape (a + w.offset + j * shape_size
+        t.structs w.shape)
     member_open is_free j l = record {
       element = o.element;
       element_is = o.element_is;
@@ -117,4 +131,5 @@ module _ (t : Table) (types : HasTypes t) (blocks : List Block) (m : Memory) (b 
         let element : o.element ≡ is.shape = some_same o.element is.shape (sym o.element_is ∙ is.shape_is) in
         subst (λ (d : ℕ). HoldsFitting blocks t.elems t.structs (member_value m.bytes a u) m.bytes d w.shape) (sym first_at)
         ((is.fit o.place plain o.within).members a s k 0 u w
-          (subst (λ (z : Shape). Part t.structs is_any (b.base + o.place * b.layout.size) z a (shape.Struct s)) element struct_part) known mem used some)
+        (subst (λ (z : Shape). Part t.structs is_any (b.base + o.place * b.layout.size) z a (shape.Struct s)) element struct_part) known
+        mem used some)

@@ -27,19 +27,23 @@ unfolding low_bytes
 low_small zero v = All-nil (λ b. b < 256)
 low_small (suc n) v = All-cons (λ b. b < 256) (v % 256) (low_bytes n (v / 256)) (grind arith) (low_small n (v / 256))
 
-pub written_small : (bytes new : List ℕ) (to : ℕ) → All (λ b. b < 256) bytes → All (λ b. b < 256) new → All (λ b. b < 256) (overwritten bytes to new)
+pub written_small : (bytes new : List ℕ) (to : ℕ) → All (λ b. b < 256) bytes → All (λ b. b < 256) new
+    → All (λ b. b < 256) (overwritten bytes to new)
 unfolding overwritten
 written_small bytes new to all few = All-append (λ b. b < 256) (take to bytes ++ new) (drop (to + length new) bytes)
-    (All-append (λ b. b < 256) (take to bytes) new (All-take (λ b. b < 256) to bytes all) few) (All-drop (λ b. b < 256) (to + length new) bytes all)
+    (All-append (λ b. b < 256) (take to bytes) new (All-take (λ b. b < 256) to bytes all) few) (All-drop (λ b. b < 256) (to + length new)
+    bytes all)
 
-pub all_some : (t : Table) → HasTypes t → (s k : ℕ) (x : StructShape) (m : Member) → slice_get t.structs s ≡ Some x → slice_get x.members k ≡ Some m → 0 < m.count
+pub all_some : (t : Table) → HasTypes t → (s k : ℕ) (x : StructShape) (m : Member) → slice_get t.structs s ≡ Some x → slice_get x.members k
+    ≡ Some m → 0 < m.count
 all_some t types s k x m is mem = ((types.structs s x is).members k m mem).some
 
 -- the element with number i of a block
 abbrev pub element_from : Block → ℕ → ℕ
 element_from b i = b.base + i * b.layout.size
 
-module _ (t : Table) (types : HasTypes t) (blocks : List Block) (m : Memory) (good : IsMemory t blocks m) (w : Block) (granted : Contains blocks w)
+module _ (t : Table) (types : HasTypes t) (blocks : List Block) (m : Memory) (good : IsMemory t blocks m) (w : Block)
+    (granted : Contains blocks w)
     (to : ℕ) (new : List ℕ) (few : All (λ b. b < 256) new) (from_in : w.base ≤ to) (to_in : to + length new ≤ block_end w) where
   abbrev pub next : Memory
   next = record m { bytes = overwritten m.bytes to new }
@@ -54,7 +58,8 @@ module _ (t : Table) (types : HasTypes t) (blocks : List Block) (m : Memory) (go
   long = length-overwritten m.bytes new to within
 
   -- the element of a block lies in it
-  element_in : (b : Block) (is : IsBlock t blocks m b) (i : ℕ) → i < b.count → element_from b i + shape_size t.structs is.shape ≤ block_end b
+  element_in : (b : Block) (is : IsBlock t blocks m b) (i : ℕ) → i < b.count → element_from b i + shape_size t.structs is.shape ≤ block_end
+      b
   element_in b is i l =
       let bytes : elem_bytes t.elems t.structs b.layout.elem ≡ shape_size t.structs is.shape =
       ap (λ (o : Option Shape). unwrap_or (option_map (shape_size t.structs) o) 0) is.shape_is in
@@ -70,10 +75,12 @@ module _ (t : Table) (types : HasTypes t) (blocks : List Block) (m : Memory) (go
   kept b is i plain l apart =
       let there = is.there in
       let inside = element_in b is i l in
-      outside_keeps blocks t.elems t.structs types.tidy.nested (all_some t types) m.bytes new to (element_from b i) is.shape within (omega (arith, inside, there)) apart (is.fit i plain l)
+      outside_keeps blocks t.elems t.structs types.tidy.nested (all_some t types) m.bytes new to (element_from b i) is.shape within
+      (omega (arith, inside, there)) apart (is.fit i plain l)
 
   -- an element of another block
-  elsewhere : (b : Block) (is : IsBlock t blocks m b) (i : ℕ) → b.layout.nullterm ≡ false → i < b.count → (block_end b ≤ w.base) ⊎ (block_end w ≤ b.base)
+  elsewhere : (b : Block) (is : IsBlock t blocks m b) (i : ℕ) → b.layout.nullterm ≡ false → i < b.count → (block_end b ≤ w.base) ⊎
+      (block_end w ≤ b.base)
       → BytesFit blocks t.elems t.structs (overwritten m.bytes to new) (element_from b i) is.shape
   elsewhere b is i plain l (inl e) = let inside = element_in b is i l in kept b is i plain l (inl (omega (arith, inside, e, from_in)))
   elsewhere b is i plain l (inr e) = kept b is i plain l (inr (omega (arith, to_in, e)))
@@ -86,7 +93,8 @@ module _ (t : Table) (types : HasTypes t) (blocks : List Block) (m : Memory) (go
       let same : b.base + 1 * b.count ≡ block_end b = ap (λ (n : ℕ). b.base + n * b.count) (sym known.0) in
       omega (arith, count, same)
 
-  other_end : (b : Block) (is : IsBlock t blocks m b) → b.base < block_end b → (block_end b ≤ w.base) ⊎ (block_end w ≤ b.base) → (block_end b - 1 + 1 ≤ to) ⊎ (to + length new ≤ block_end b - 1)
+  other_end : (b : Block) (is : IsBlock t blocks m b) → b.base < block_end b → (block_end b ≤ w.base) ⊎ (block_end w ≤ b.base)
+      → (block_end b - 1 + 1 ≤ to) ⊎ (to + length new ≤ block_end b - 1)
   other_end b is some (inl e) = inl (omega (arith, e, some, from_in))
   other_end b is some (inr e) = inr (omega (arith, e, to_in, some))
 
@@ -99,23 +107,33 @@ module _ (t : Table) (types : HasTypes t) (blocks : List Block) (m : Memory) (go
 
   -- what is expected of the written block
   pub record KeepsBlock : Type 0 where
-    pub fit : (i : ℕ) → w.layout.nullterm ≡ false → i < w.count → BytesFit blocks t.elems t.structs (overwritten m.bytes to new) (element_from w i) own_block.shape
+    pub fit : (i : ℕ) → w.layout.nullterm ≡ false → i < w.count → BytesFit blocks t.elems t.structs (overwritten m.bytes to new)
+        (element_from w i) own_block.shape
     pub ends : w.layout.nullterm ≡ true → slice_index_or (overwritten m.bytes to new) (block_end w - 1) 0 ≡ 0
 
   -- where one element is written, the others fit as before
-  pub one_element : (j : ℕ) → j < w.count → element_from w j ≤ to → to + length new ≤ element_from w j + shape_size t.structs own_block.shape
-      → BytesFit blocks t.elems t.structs (overwritten m.bytes to new) (element_from w j) own_block.shape → (i : ℕ) → w.layout.nullterm ≡ false → i < w.count
+  pub one_element : (j : ℕ) → j < w.count → element_from w j ≤ to → to + length new ≤ element_from w j + shape_size t.structs
+      own_block.shape
+      → BytesFit blocks t.elems t.structs (overwritten m.bytes to new) (element_from w j) own_block.shape → (i : ℕ) → w.layout.nullterm ≡
+      false → i < w.count
       → BytesFit blocks t.elems t.structs (overwritten m.bytes to new) (element_from w i) own_block.shape
   one_element j l low high fits i plain k = by (i == j) (nat_lt i j) refl refl
     where
       size : w.layout.size ≡ shape_size t.structs own_block.shape
       size = own_block.size ∙ ap (λ (o : Option Shape). unwrap_or (option_map (shape_size t.structs) o) 0) own_block.shape_is
+
       next_to : (a b n : ℕ) → a < b → a * n + n ≤ b * n
-      next_to a b n less = let more : (a + 1) * n ≤ b * n = mul-le (a + 1) n b n (omega (arith, less)) (omega arith) in let same : (a + 1) * n ≡ a * n + n = grind arith in omega (arith, more, same)
-      by : (x y : Bool) → (i == j) ≡ x → nat_lt i j ≡ y → BytesFit blocks t.elems t.structs (overwritten m.bytes to new) (element_from w i) own_block.shape
-      by true y e g = subst (λ (n : ℕ). BytesFit blocks t.elems t.structs (overwritten m.bytes to new) (element_from w n) own_block.shape) (sym ((Decides-eqb i j).0 e)) fits
-      by false true e g = let less : i < j = grind arith in let far = next_to i j w.layout.size less in kept w own_block i plain k (inl (omega (arith, far, size, low)))
-      by false false e g = let less : j < i = grind (arith, nat_tests) in let far = next_to j i w.layout.size less in kept w own_block i plain k (inr (omega (arith, far, size, high)))
+      next_to a b n less = let more : (a + 1) * n ≤ b * n = mul-le (a + 1) n b n (omega (arith, less)) (omega arith) in let same : (a + 1)
+          * n ≡ a * n + n = grind arith in omega (arith, more, same)
+
+      by : (x y : Bool) → (i == j) ≡ x → nat_lt i j ≡ y → BytesFit blocks t.elems t.structs (overwritten m.bytes to new) (element_from w i)
+          own_block.shape
+      by true y e g = subst (λ (n : ℕ). BytesFit blocks t.elems t.structs (overwritten m.bytes to new) (element_from w n) own_block.shape)
+          (sym ((Decides-eqb i j).0 e)) fits
+      by false true e g = let less : i < j = grind arith in let far = next_to i j w.layout.size less in kept w own_block i plain k
+          (inl (omega (arith, far, size, low)))
+      by false false e g = let less : j < i = grind (arith, nat_tests) in let far = next_to j i w.layout.size less in kept w own_block i
+          plain k (inr (omega (arith, far, size, high)))
 
   module _ (keeps : KeepsBlock) where
     -- a block that is the written one, whatever it is used for
@@ -125,23 +143,28 @@ module _ (t : Table) (types : HasTypes t) (blocks : List Block) (m : Memory) (go
         let layout = same.layout in
         let base = same.base in
         let count = same.count in
-        let shape : own_block.shape ≡ is.shape = some_same own_block.shape is.shape (sym own_block.shape_is ∙ ap (λ (n : ℕ). slice_get t.elems n) (ap (λ (y : Layout). y.elem) (sym layout)) ∙ is.shape_is) in
-        let at : element_from w i ≡ element_from b i = ap (λ (n : ℕ). n + i * w.layout.size) (sym base) ∙ ap (λ (y : Layout). b.base + i * y.size) (sym layout) in
+        let shape : own_block.shape ≡ is.shape = some_same own_block.shape is.shape (sym own_block.shape_is
+        ∙ ap (λ (n : ℕ). slice_get t.elems n) (ap (λ (y : Layout). y.elem) (sym layout)) ∙ is.shape_is) in
+        let at : element_from w i ≡ element_from b i = ap (λ (n : ℕ). n + i * w.layout.size) (sym base)
+        ∙ ap (λ (y : Layout). b.base + i * y.size) (sym layout) in
         subst (λ (n : ℕ). BytesFit blocks t.elems t.structs (overwritten m.bytes to new) n is.shape) at
         (subst (λ (y : Shape). BytesFit blocks t.elems t.structs (overwritten m.bytes to new) (element_from w i) y) shape
-          (keeps.fit i (ap (λ (y : Layout). y.nullterm) (sym layout) ∙ plain) (omega (arith, l, count))))
+        (keeps.fit i (ap (λ (y : Layout). y.nullterm) (sym layout) ∙ plain) (omega (arith, l, count))))
 
     fit_next : (b : Block) (is : IsBlock t blocks m b) → AreApart b w → (i : ℕ) → b.layout.nullterm ≡ false → i < b.count
         → BytesFit blocks t.elems t.structs (overwritten m.bytes to new) (element_from b i) is.shape
     fit_next b is (inl same) i plain l = same_fit b is same i plain l
     fit_next b is (inr apart) i plain l = elsewhere b is i plain l apart
 
-    ends_next : (b : Block) (is : IsBlock t blocks m b) → AreApart b w → b.layout.nullterm ≡ true → slice_index_or (overwritten m.bytes to new) (block_end b - 1) 0 ≡ 0
+    ends_next : (b : Block) (is : IsBlock t blocks m b) → AreApart b w → b.layout.nullterm ≡ true
+        → slice_index_or (overwritten m.bytes to new) (block_end b - 1) 0 ≡ 0
     ends_next b is (inr apart) text = ends_still b is text apart
     ends_next b is (inl same) text =
-        let end : block_end w ≡ block_end b = ap (λ (n : ℕ). n + w.layout.size * w.count) (sym same.base) ∙ ap (λ (y : Layout). b.base + y.size * w.count) (sym same.layout)
-            ∙ ap (λ (n : ℕ). b.base + b.layout.size * n) (sym same.count) in
-        subst (λ (n : ℕ). slice_index_or (overwritten m.bytes to new) (n - 1) 0 ≡ 0) end (keeps.ends (ap (λ (y : Layout). y.nullterm) (sym same.layout) ∙ text))
+        let end : block_end w ≡ block_end b = ap (λ (n : ℕ). n + w.layout.size * w.count) (sym same.base)
+        ∙ ap (λ (y : Layout). b.base + y.size * w.count) (sym same.layout)
+        ∙ ap (λ (n : ℕ). b.base + b.layout.size * n) (sym same.count) in
+        subst (λ (n : ℕ). slice_index_or (overwritten m.bytes to new) (n - 1) 0 ≡ 0) end
+        (keeps.ends (ap (λ (y : Layout). y.nullterm) (sym same.layout) ∙ text))
 
     block_next : (b : Block) → Contains blocks b → IsBlock t blocks next b
     block_next b g =

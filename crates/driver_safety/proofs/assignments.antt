@@ -17,3 +17,5 @@ pub mod Conversions
 pub mod Refitting
 pub mod KeptRules
 pub mod Assignments
+pub mod ZeroStatement
+pub mod Zeros

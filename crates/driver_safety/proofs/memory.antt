@@ -7,3 +7,4 @@ pub mod Outside
 pub mod Writes
 pub mod OpenWrites
 pub mod MemberWrites
+pub mod ZeroWrites

@@ -8,3 +8,4 @@ pub mod WrittenNumbers
 pub mod LightHandling
 pub mod ExpressionLaw
 pub mod AssignmentLaw
+pub mod ZeroLaw

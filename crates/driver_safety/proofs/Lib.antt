@@ -1,0 +1,5 @@
+pub mod checks
+pub mod expressions
+pub mod assignments
+pub mod memory
+pub mod steps

@@ -1,0 +1,6 @@
+pub mod Reached
+pub mod Sounding
+pub mod Evaluations
+pub mod NumberedChecks
+pub mod TestedChecks
+pub mod LineRules

@@ -1,0 +1,10 @@
+pub mod Lying
+pub mod Apart
+pub mod Stores
+pub mod StoredValues
+pub mod Growing
+pub mod Outside
+pub mod Writes
+pub mod OpenWrites
+pub mod MemberWrites
+pub mod ZeroWrites

@@ -1,0 +1,11 @@
+pub mod Passing
+pub mod Reaching
+pub mod StructPlaces
+pub mod TypeFacts
+pub mod Goodness
+pub mod Derivations
+pub mod WrittenNumbers
+pub mod LightHandling
+pub mod ExpressionLaw
+pub mod AssignmentLaw
+pub mod ZeroLaw

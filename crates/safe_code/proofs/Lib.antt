@@ -1,0 +1,8 @@
+pub mod Always
+pub mod SimpleForms
+pub mod BracketsKept
+pub mod SourceDepth
+pub mod CheckedDepth
+pub mod SlotCounts
+pub mod RunnableUnits
+pub mod FewFunctions

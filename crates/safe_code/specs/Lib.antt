@@ -1,0 +1,5 @@
+pub mod SourceNesting
+pub mod Runnable
+pub mod DerivedUnit
+pub mod Drivers
+pub mod Lookup

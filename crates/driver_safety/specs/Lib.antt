@@ -9,3 +9,6 @@ pub mod LightHandling
 pub mod ExpressionLaw
 pub mod AssignmentLaw
 pub mod ZeroLaw
+pub mod Handing
+pub mod CallLaw
+pub mod EntryLaw

@@ -1,5 +1,7 @@
 //! The laws.
 ghost use Rattle.driver_safety.specs.AssignmentLaw.{EachAssignmentIsSound};
+ghost use Rattle.driver_safety.specs.CallLaw.{EachCallIsSound, EachReturnIsSound};
+ghost use Rattle.driver_safety.specs.EntryLaw.{EachFirstFrameIsGood};
 ghost use Rattle.driver_safety.specs.ExpressionLaw.{EachPlaceIsSound, EachValueIsSound};
 ghost use Rattle.driver_safety.specs.ZeroLaw.{EachZeroIsSound};
 
@@ -24,4 +26,20 @@ pub fn every_assignment_is_sound()
 /// And so does `zero(l)`: afterwards each arm that a tag may select holds 0, and no other member has changed.
 pub fn every_zero_is_sound()
     ensures { EachZeroIsSound }
+{}
+
+/// A call of a function, in a good state, fails a check or hands over what the parameters take: an integer in the range of its type, a pointer within the bounds that its
+/// parameter has by the very arguments that the names of the annotation stand for. The state stays.
+pub fn every_call_is_sound()
+    ensures { EachCallIsSound }
+{}
+
+/// `return`, in a good state, fails a check or gives back what the result takes. The state stays.
+pub fn every_return_is_sound()
+    ensures { EachReturnIsSound }
+{}
+
+/// The first frame of a function that is called with what its parameters take is good: each parameter fits by the names of the function's own slots, and all other slots are 0.
+pub fn every_first_frame_is_good()
+    ensures { EachFirstFrameIsGood }
 {}

@@ -4,4 +4,7 @@
 
 mod laws;
 
-pub use laws::{every_assignment_is_sound, every_place_is_sound, every_value_is_sound};
+pub use laws::{
+    every_assignment_is_sound, every_call_is_sound, every_first_frame_is_good,
+    every_place_is_sound, every_return_is_sound, every_value_is_sound, every_zero_is_sound,
+};

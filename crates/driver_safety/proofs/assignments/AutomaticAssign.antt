@@ -74,7 +74,7 @@ word_lt n h = grind arith
 word_of_is : (z : ℤ) (n : ℕ) → z ≡ pos n → n < 2 ^ 32 → word_of z ≡ Ok n
 word_of_is z n e l = ap word_of e ∙ ap (λ (b : Bool). if b then Ok n else Err Wild) (lt-ltb n (2 ^ 32) l)
 
-bounded_is : (v lo hi : ℤ) (a l h : ℕ) → v ≡ pos a → lo ≡ pos l → hi ≡ pos h → a < 2 ^ 32 → l < 2 ^ 32 → h < 2 ^ 32 → bounded v lo hi ≡ Ok
+pub bounded_is : (v lo hi : ℤ) (a l h : ℕ) → v ≡ pos a → lo ≡ pos l → hi ≡ pos h → a < 2 ^ 32 → l < 2 ^ 32 → h < 2 ^ 32 → bounded v lo hi ≡ Ok
     (record { value = a; lo = l; hi = h })
 unfolding bounded
 bounded_is v lo hi a l h p q r x y z =

@@ -112,7 +112,7 @@ module _ (f : CheckedFn) (ctx : Context) (blocks : List Block) (st : State) (goo
       abbrev next : State
       next = with_local st slot z
 
-      same_slot : local_at next slot ≡ z
+      pub same_slot : local_at next slot ≡ z
       same_slot = get_or-set_same st.locals slot z (pos 0) (good.frame.long slot x is)
 
       stays : (k : ℕ) → k ≢ slot → local_at next k ≡ local_at st k

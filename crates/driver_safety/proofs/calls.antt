@@ -1,0 +1,5 @@
+pub mod Given
+pub mod Returning
+pub mod Arguments
+pub mod Calling
+pub mod Entering

@@ -553,28 +553,52 @@ fn fill(rt: &impl Abort, memory: &mut Tested, from: u32, end: u32)
     }
 }
 
+/// Lays down answers of ports, all of which there is room for.
+fn lay_down(rt: &impl Abort, devices: &mut Devices, answers: &[(u16, i32)]) {
+    for place in 0..answers.len() {
+        let (port, v) = answers[place];
+        assert!(rt; devices.answer(port, v).is_ok());
+    }
+}
+
+/// The rows of the table that came out otherwise.
+fn wrong_in_table(
+    rt: &impl Abort,
+    alloc: Global,
+    devices: &mut Devices,
+) -> Result<String, AllocError> {
+    let mut kernel = new_tracked(alloc)?;
+    let memory = Tested::new(alloc, 16)?;
+    let wrong = wrong_rows(rt, alloc, &mut kernel, &memory, devices, TABLE)?;
+    Ok(wrong)
+}
+
+/// The rows of the history that came out otherwise.
+fn wrong_in_history(
+    rt: &impl Abort,
+    alloc: Global,
+    devices: &mut Devices,
+) -> Result<String, AllocError> {
+    let mut kernel = new_tracked(alloc)?;
+    let memory = Tested::new(alloc, 16)?;
+    let wrong = wrong_rows(rt, alloc, &mut kernel, &memory, devices, HISTORY)?;
+    Ok(wrong)
+}
+
 #[test]
 fn each_call_has_each_of_its_answers(rt: HostRuntime) -> Result<(), Fail> {
-    let mut kernel = new_tracked(rt.alloc())?;
-    let memory = Tested::new(rt.alloc(), 16)?;
     let mut devices = Devices::new(rt.alloc(), 3)?;
-    for (port, v) in ANSWERS {
-        assert_eq!(rt; devices.answer(port, v), Ok(()));
-    }
-    let wrong = wrong_rows(&rt, rt.alloc(), &mut kernel, &memory, &mut devices, TABLE)?;
+    lay_down(&rt, &mut devices, &ANSWERS);
+    let wrong = wrong_in_table(&rt, rt.alloc(), &mut devices)?;
     assert_eq!(rt; wrong.as_str(), "");
     Ok(())
 }
 
 #[test]
 fn a_history_of_200_calls(rt: HostRuntime) -> Result<(), Fail> {
-    let mut kernel = new_tracked(rt.alloc())?;
-    let memory = Tested::new(rt.alloc(), 16)?;
     let mut devices = Devices::new(rt.alloc(), 6)?;
-    for (port, v) in ANSWERS_OF_HISTORY {
-        assert_eq!(rt; devices.answer(port, v), Ok(()));
-    }
-    let wrong = wrong_rows(&rt, rt.alloc(), &mut kernel, &memory, &mut devices, HISTORY)?;
+    lay_down(&rt, &mut devices, &ANSWERS_OF_HISTORY);
+    let wrong = wrong_in_history(&rt, rt.alloc(), &mut devices)?;
     assert_eq!(rt; wrong.as_str(), "");
     Ok(())
 }

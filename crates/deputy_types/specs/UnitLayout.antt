@@ -222,19 +222,24 @@ elem_shape elements extents (element.Count n k) = shape.Pointer n (up_to (unwrap
 unfoldable pub types_of : List Item → Types
 types_of items = record { structs = struct_names items []; elements = (found_items (struct_names items []) items first_found).elements }
 
--- the table of declarations, image and structs
-unfoldable pub table_of : Types → Declared → Image → Structs → Table
-table_of types d image structs = record {
+-- the table of declarations, image and structs, of these shapes of elements, with whether each global is an array
+abbrev pub table_of_parts : Types → Declared → Image → Structs → List Shape → List Bool → Table
+table_of_parts types d image structs elems arrays = record {
   types = types;
   extents = d.extents;
-  elems = map (elem_shape types.elements d.extents) types.elements;
+  elems = elems;
   structs = structs.shapes;
   names = structs.names;
   image = image.blocks;
   globals = d.names;
-  arrays = map (λ g. g.array) d.globals;
+  arrays = arrays;
   literals = length d.lines;
 }
+
+-- the table of declarations, image and structs
+unfoldable pub table_of : Types → Declared → Image → Structs → Table
+table_of types d image structs =
+    table_of_parts types d image structs (map (elem_shape types.elements d.extents) types.elements) (map (λ g. g.array) d.globals)
 
 -- the structs, the image and the table behind the declarations
 unfoldable pub table_behind : Types → List (List ℕ) → List Item → Declared → Result Table TypeRefusal

@@ -23,7 +23,7 @@ pub(crate) struct Pointee {
 }
 
 /// From the pointer itself up to so many elements of this size.
-pub(crate) fn up_to(alloc: Global, size: u32, n: i64) -> Bounds
+pub fn up_to(alloc: Global, size: u32, n: i64) -> Bounds
     requires size { size ≤ 65536 }
     requires count { IsTrue (is_count n) }
     ensures { result ≡ spec.up_to size n }

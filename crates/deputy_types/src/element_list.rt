@@ -35,7 +35,7 @@ impl Model for ElementList {
 
 impl ElementList {
     /// `char` alone.
-    pub(crate) fn new(alloc: Global) -> Result<ElementList, Memory>
+    pub fn new(alloc: Global) -> Result<ElementList, Memory>
         ensures { IfOk result (λ l. l ≡ Int U8 ∷ []) }
     {
         let mut keys = IndexSet::new(alloc);
@@ -79,7 +79,7 @@ impl ElementList {
 
     /// Adds a type behind the others, if it is new.
     #[tactic(auto, unfolding(crate::specs::Found::with_element))]
-    pub(crate) fn add(&mut self, key: Element) -> Result<(), Memory>
+    pub fn add(&mut self, key: Element) -> Result<(), Memory>
         requires { IsKey key }
         ensures { OnOk result (self.new ≡ with_element self.old key) }
     {

@@ -9,7 +9,7 @@ use c_tree::{Star, TypeName};
 use checked_tree::Scalar;
 
 /// A type whose alignment is its size.
-pub(crate) fn natural(bytes: u32) -> Extent
+pub fn natural(bytes: u32) -> Extent
     ensures { result ≡ spec.natural bytes }
 {
     Extent {
@@ -103,7 +103,7 @@ fn own_extent(key: &Element) -> Extent
 
 /// The extent of a union's arm.
 #[tactic(auto, unfolding(crate::specs::Extents::arm_extent))]
-pub(crate) fn arm_extent(types: &Types, t: &TypeName) -> Extent
+pub fn arm_extent(types: &Types, t: &TypeName) -> Extent
     ensures { result ≡ spec.arm_extent types.now t.now }
 {
     let base = match base_key(&types.structs, &t.base) {
@@ -125,7 +125,7 @@ pub fn round_up_to(align: u32, n: u32) -> u32
 }
 
 /// The room for the greater of two.
-pub(crate) fn greater(a: Extent, b: Extent) -> Extent
+pub fn greater(a: Extent, b: Extent) -> Extent
     ensures value { result ≡ spec.greater a b }
     ensures fits { IsExtent a → IsExtent b → IsExtent result }
 {

@@ -125,7 +125,7 @@ fn pointer_key(n: u32, key: &Element, annotation: Option<&Annotation>) -> Option
 
 /// The type behind a star. None where the annotation is not constant, or the type before it is no element.
 #[tactic(auto, unfolding(crate::specs::Types::star_key))]
-pub(crate) fn star_key(elements: &ElementList, key: &Element, star: &Star) -> Option<Element>
+pub fn star_key(elements: &ElementList, key: &Element, star: &Star) -> Option<Element>
     ensures { result ≡ spec.star_key elements.now key.now star.now }
 {
     let n = elements.number(key)?;

@@ -5,7 +5,7 @@ use sqlite_items::Items;
 
 /// What a struct's fields are read with.
 #[derive(Clone, Copy)]
-pub(crate) struct Scope<'a> {
+pub struct Scope<'a> {
     /// The types of the text.
     pub types: &'a Types,
     /// The extents of the structs by number.

@@ -1,56 +1,48 @@
-//! The types of a driver text: what its declarations and layouts are, as definitions and code. `layouts` gives the table of a text's types, in which names and
-//! types are held by number.
+//! The types of a driver text: what its declarations and layouts are, as definitions, and the table of its types, in which names and types are held by number,
+//! with what is looked up in it. A table is made in deputy_layouts.
 #![tactic(auto)]
 
-mod arms;
 mod bounds;
 mod dependence;
 mod edges;
-mod elem_shapes;
+mod elem_sizes;
 mod element;
 mod element_list;
 mod extent;
 mod extents;
-mod fields;
 mod found;
-mod found_forms;
-mod found_types;
 mod global;
 mod keys;
 mod laying;
 mod load_image;
 mod member_list;
-mod member_types;
 mod name_list;
 mod refusal;
 mod roles;
 mod sibling;
 mod siblings;
-mod struct_layout;
 mod struct_names;
-mod struct_siblings;
 mod table;
 mod typed_shapes;
 mod types;
-mod unions;
-mod unit_globals;
 mod unit_items;
 mod unit_layout;
 
-pub use arms::const_value;
+pub use bounds::up_to;
 pub use dependence::{bounds_name, has_names, shape_names};
 pub use element::Element;
 pub use element_list::ElementList;
 pub use extent::Extent;
-pub use extents::{key_extent, round_up_to, stars_extent, type_extent};
-pub use fields::element_count;
+pub use extents::{
+    arm_extent, greater, key_extent, natural, round_up_to, stars_extent, type_extent,
+};
 pub use found::Found;
 pub use global::GlobalShape;
 pub use keys::{
-    are_constant, base_key, constant_sum, front_stars, is_char, last_star, pointed_key, stars_key,
-    type_key,
+    are_constant, base_key, constant_sum, front_stars, is_char, last_star, pointed_key, star_key,
+    stars_key, type_key,
 };
-pub use laying::{Arms, Laid, Laying};
+pub use laying::{Arms, Laid, Laying, Scope};
 pub use load_image::Image;
 pub use member_list::MemberList;
 pub use name_list::NameList;
@@ -63,4 +55,4 @@ pub use table::{GlobalPlace, TypeTable};
 pub use typed_shapes::{shape_behind, typed_shape};
 pub use types::Types;
 pub use unit_items::Declared;
-pub use unit_layout::{Structs, layouts};
+pub use unit_layout::Structs;

@@ -27,7 +27,7 @@ impl Model for NameList {
 
 impl NameList {
     /// No names.
-    pub(crate) fn new(alloc: Global) -> NameList
+    pub fn new(alloc: Global) -> NameList
         ensures { result ≡ [] }
     {
         NameList {
@@ -61,7 +61,7 @@ impl NameList {
 
     /// Adds a name behind the others, if it is new.
     #[tactic(auto, unfolding(crate::specs::Found::with_name))]
-    pub(crate) fn add(&mut self, name: &Name) -> Result<(), Memory>
+    pub fn add(&mut self, name: &Name) -> Result<(), Memory>
         ensures { OnOk result (self.new ≡ with_name self.old name.now) }
     {
         if self.keys.contains(name) {

@@ -3,12 +3,13 @@ ghost use Rattle.std.specs.Prelude.{◌≡◌, IfOk, option_copied};
 ghost use Rattle.deputy_types.specs.Declarations as declarations;
 ghost use Rattle.deputy_types.specs.Extents.{AreExtents};
 ghost use Rattle.deputy_types.specs.Table as table;
+ghost use Rattle.deputy_types.specs.UnitLayout.{IsDeclared, table_of_parts};
 
 use crate::dependence::{any_names, are_tagged_by};
-use crate::elem_shapes::{elem_size, size_behind};
+use crate::elem_sizes::{elem_size, size_behind};
 use crate::{
-    Element, Extent, NameList, Role, Siblings, StructNames, Types, Unannotated, base_key,
-    declared_role, type_key, typed_shape,
+    Declared, Element, Extent, Image, NameList, Role, Siblings, StructNames, Structs, Types,
+    Unannotated, base_key, declared_role, type_key, typed_shape,
 };
 use c_tree::TypeName;
 use checked_tree::{CheckedFn, CheckedUnit, ImageBlock, Member, Shape, StructShape, UnionShape};
@@ -67,6 +68,40 @@ impl Model for TypeTable {
 }
 
 impl TypeTable {
+    /// The table of these types, declarations, structs and load image. `elems` are the shapes of the types of elements, and `arrays` tells of each global whether it
+    /// is an array.
+    pub fn new(
+        types: Types,
+        declared: Declared,
+        image: Image,
+        structs: Structs,
+        elems: Items<Shape>,
+        arrays: Items<bool>,
+    ) -> TypeTable
+        requires { IsDeclared declared }
+        ensures { result ≡ table_of_parts types declared image structs elems arrays }
+    {
+        let literals = declared.lines.len() as u32;
+        let Declared {
+            extents,
+            names: globals,
+            ..
+        } = declared;
+        let Structs { shapes, names } = structs;
+        let Image { blocks, .. } = image;
+        TypeTable {
+            types,
+            extents,
+            elems,
+            structs: shapes,
+            names,
+            image: blocks,
+            globals,
+            arrays,
+            literals,
+        }
+    }
+
     /// The checked unit of these functions: the load image, the structs and the elements are moved into it.
     pub fn into_unit(self, functions: Items<CheckedFn>) -> CheckedUnit
         ensures functions { result.functions ≡ functions }

@@ -2,6 +2,7 @@ pub mod BareValues
 pub mod SumsHave
 pub mod EdgesHave
 pub mod NamesHave
+pub mod SlotCounts
 pub mod SlotNumbers
 pub mod StatementForms
 pub mod RuleExamples

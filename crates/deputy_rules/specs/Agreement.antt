@@ -1,5 +1,5 @@
--- When two heads of one function agree: in their results, and in the types and annotations of their parameters, where each name stands for the
--- place of the parameter that it names (C99, 6.2.7 and 6.7.5.3; the annotations are part of the types).
+-- When two heads of one function agree: in their results, and in the types and annotations of their parameters, where each name stands for
+-- the place of the parameter that it names (C99, 6.2.7 and 6.7.5.3; the annotations are part of the types).
 use Rattle.std.specs.Prelude.{ℕ, Bool, true, false, ◌&&◌, ◌==◌, List, [], ◌∷◌, ℤ, pos, Option, Some, None, position, bytes_eq}
 use Rattle.std.specs.Ordering.{int_eq}
 use Rattle.c_tree.specs.declared.items.Head.{Head}
@@ -157,4 +157,5 @@ same_result_base structs _ _ = false
 -- the heads agree
 unfoldable pub agree : List (List ℕ) → Head → Head → Bool
 agree structs a b =
-    same_result_base structs a.result b.result && (same_stars a.params b.params a.stars b.stars && same_parameters structs a.params b.params a.params b.params)
+    same_result_base structs a.result b.result
+    && (same_stars a.params b.params a.stars b.stars && same_parameters structs a.params b.params a.params b.params)

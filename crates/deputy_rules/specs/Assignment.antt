@@ -1,5 +1,5 @@
--- `l = e`: the checks of e, those of l's place, that a terminator stays, the coercion of e to l's type with the present values of the names, the coercion
--- of each sibling whose type names l, and that a tag's union is clear.
+-- `l = e`: the checks of e, those of l's place, that a terminator stays, the coercion of e to l's type with the present values of the
+-- names, the coercion of each sibling whose type names l, and that a tag's union is clear.
 use Rattle.std.specs.Prelude.{ℕ, true, false, [], ◌∷◌, ◌++◌, ℤ, pos, Some}
 use Rattle.sd_base.specs.declared.kinds.CheckKind.TheVariants as kind
 use Rattle.c_tree.specs.declared.expressions.Expr.{Expr}
@@ -33,7 +33,8 @@ use Rattle.deputy_rules.specs.Values.{address, integer_of, is_nullterm, of_slots
 
 -- to an integer local
 unfoldable pub assign_integer : Context → ℕ → Scalar → Whole → Deriving CheckedStmt
-assign_integer ctx slot s w = slot_changes ctx slot (sum_of (converted_side s w)) >>= λ ids. pure (statement.Assign ctx.line slot s w.form ids)
+assign_integer ctx slot s w =
+    slot_changes ctx slot (sum_of (converted_side s w)) >>= λ ids. pure (statement.Assign ctx.line slot s w.form ids)
 
 -- to a pointer local that takes its bounds with it
 unfoldable pub assign_automatic : Context → ℕ → Handed → Deriving CheckedStmt
@@ -60,12 +61,14 @@ assign_local ctx slot x shape.Address = none
 
 -- to a place that no sibling names: a pointer to so many elements
 unfoldable pub store_counted : Context → Place → Derived → ℕ → ℤ → Deriving CheckedStmt
-store_counted ctx p x n count = lift (element_at ctx.table n) >>= λ key. lift (handed ctx key false x) >>= λ h. coerce_counted ctx key count h >>= λ ids.
+store_counted ctx p x n count =
+    lift (element_at ctx.table n) >>= λ key. lift (handed ctx key false x) >>= λ h. coerce_counted ctx key count h >>= λ ids.
     pure (statement.Store ctx.line address p.form h.form ids)
 
 -- a pointer to text
 unfoldable pub store_text : Context → Place → Derived → ℕ → Deriving CheckedStmt
-store_text ctx p x n = lift (element_at ctx.table n) >>= λ key. lift (handed ctx key true x) >>= λ h. pure (statement.Store ctx.line address p.form h.form [])
+store_text ctx p x n =
+    lift (element_at ctx.table n) >>= λ key. lift (handed ctx key true x) >>= λ h. pure (statement.Store ctx.line address p.form h.form [])
 
 -- an integer
 unfoldable pub store_integer : Context → Place → Derived → Scalar → Deriving CheckedStmt
@@ -80,12 +83,14 @@ store_element ctx p x (element.Count n count) = store_counted ctx p x n count
 
 -- to a byte through a nullterm pointer: the terminator is not overwritten, unless by another
 unfoldable pub store_byte : Context → Place → Whole → Deriving CheckedStmt
-store_byte ctx p w = ask ctx kind.Term (Term p.at (Some (converted_side U8 w))) >>= λ id. pure (statement.Store ctx.line U8 p.form w.form (id ∷ []))
+store_byte ctx p w =
+    ask ctx kind.Term (Term p.at (Some (converted_side U8 w))) >>= λ id. pure (statement.Store ctx.line U8 p.form w.form (id ∷ []))
 
 -- to an integer field or arm, the m-th member, at this offset
 unfoldable pub store_number : Context → Place → ℕ → ℕ → ℕ → Scalar → Whole → Deriving CheckedStmt
 store_number ctx p s m offset scalar w = member_changes ctx p s m (sum_of (converted_side scalar w)) >>= λ ids.
-    tag_change ctx p s m offset scalar (converted_side scalar w) >>= λ more. pure (statement.Store ctx.line scalar p.form w.form (ids ++ more))
+    tag_change ctx p s m offset scalar (converted_side scalar w) >>= λ more.
+    pure (statement.Store ctx.line scalar p.form w.form (ids ++ more))
 
 -- to a pointer field or arm
 unfoldable pub store_pointer : Context → Place → ℕ → ℕ → Element → Bounds → Handed → Deriving CheckedStmt

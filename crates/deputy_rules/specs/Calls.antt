@@ -1,5 +1,6 @@
 -- Calls of functions and of the kernel, `kalloc` and `kfree`, and the local that takes a result.
-use Rattle.std.specs.Prelude.{ℕ, Bool, true, false, ◌&&◌, ◌==◌, if◌then◌else◌, List, [], ◌∷◌, ◌++◌, map, Option, Some, None, option_map, position, bytes_eq, slice_get}
+use Rattle.std.specs.Prelude.{ℕ, Bool, true, false, ◌&&◌, ◌==◌, if◌then◌else◌, List, [], ◌∷◌, ◌++◌, map, Option, Some, None, option_map}
+use Rattle.std.specs.Prelude.{position, bytes_eq, slice_get}
 use Rattle.std.specs.List.{list_any}
 use Rattle.c_tree.specs.declared.expressions.Expr.{Expr}
 use Rattle.c_tree.specs.declared.expressions.Expr.TheOpen as X
@@ -212,7 +213,8 @@ handler_number k (Some f) = if is_handler f then Some k else None
 
 -- the number of the function that is named as a handler
 unfoldable pub handler : List Signature → Expr → Option ℕ
-handler functions e = and_then (plain_name e) (λ name. and_then (function_number functions name) (λ k. handler_number k (slice_get functions k)))
+handler functions e =
+    and_then (plain_name e) (λ name. and_then (function_number functions name) (λ k. handler_number k (slice_get functions k)))
 
 -- the key of text
 abbrev pub text_key : Element
@@ -248,7 +250,8 @@ kernel_result answer.Block = None
 -- a kernel call
 unfoldable pub call_kernel : Context → List Signature → KernelName → Option (List ℕ) → List Expr → Deriving CheckedStmt
 call_kernel ctx functions name x es =
-    lift (call_target ctx (kernel_result (kernel_row name).result) x) >>= λ t. kernel_arguments ctx functions (kernel_row name).parameters es no_arguments >>= λ a.
+    lift (call_target ctx (kernel_result (kernel_row name).result) x) >>= λ t.
+    kernel_arguments ctx functions (kernel_row name).parameters es no_arguments >>= λ a.
     pure (statement.Kernel ctx.line t name a.numbers a.pointer a.handler 0 0)
 
 -- a call of a function with a body

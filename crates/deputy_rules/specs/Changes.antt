@@ -1,6 +1,7 @@
--- What an assignment changes in the types of its siblings (Hoare's axiom of assignment): each pointer whose annotation names the assigned slot or member
--- has to fit its own type with the new value in the name's place. All its checks have the kind Change.
-use Rattle.std.specs.Prelude.{ℕ, ◌+◌, ◌==◌, if◌then◌else◌, List, [], ◌∷◌, ◌++◌, map, pos, negsuc, Option, Some, None, find, option_map, slice_get, unwrap_or}
+-- What an assignment changes in the types of its siblings (Hoare's axiom of assignment): each pointer whose annotation names the assigned
+-- slot or member has to fit its own type with the new value in the name's place. All its checks have the kind Change.
+use Rattle.std.specs.Prelude.{ℕ, ◌+◌, ◌==◌, if◌then◌else◌, List, [], ◌∷◌, ◌++◌, map, pos, negsuc, Option, Some, None, find, option_map}
+use Rattle.std.specs.Prelude.{slice_get, unwrap_or}
 use Rattle.sd_base.specs.declared.kinds.CheckKind.TheVariants as kind
 use Rattle.checked_tree.specs.declared.expressions.CheckedExpr.TheVariants as form
 use Rattle.checked_tree.specs.declared.shapes.Bounds.{Bounds}
@@ -35,7 +36,8 @@ changed names k new = record { names = names; change = Some (record { name = k; 
 -- the coercion of a pointer with this value and its present bounds to its own type with the new value
 abbrev pub change_at : Context → Naming → Naming → Bounds → Element → Sum → Deriving (List ℕ)
 change_at ctx old new b key at =
-    coerce ctx kind.Change kind.Change at (low_sum ctx old at b) (high_sum ctx old at b) (low_sum ctx new at b) (high_sum ctx new at b) (size_of ctx key)
+    coerce ctx kind.Change kind.Change at (low_sum ctx old at b) (high_sum ctx old at b) (low_sum ctx new at b) (high_sum ctx new at b)
+    (size_of ctx key)
 
 -- of the sibling with number i, whose name has its present value among the old ones
 unfoldable pub pointer_change : Context → Naming → Naming → ℕ → Bounds → Element → Deriving (List ℕ)
@@ -56,7 +58,8 @@ optional_change ctx old new k i (Some s) = sibling_change ctx old new k i s
 -- the checks of all siblings, in the order of their declarations, from number i on, behind those that were asked for
 abbrev pub sibling_changes : Context → Naming → Naming → ℕ → ℕ → List (Option Shape) → List ℕ → Deriving (List ℕ)
 sibling_changes ctx old new k i [] ids = pure ids
-sibling_changes ctx old new k i (s ∷ ss) ids = optional_change ctx old new k i s >>= λ more. sibling_changes ctx old new k (i + 1) ss (ids ++ more)
+sibling_changes ctx old new k i (s ∷ ss) ids =
+    optional_change ctx old new k i s >>= λ more. sibling_changes ctx old new k (i + 1) ss (ids ++ more)
 
 -- where a slot has a new value
 unfoldable pub slot_changes : Context → ℕ → Sum → Deriving (List ℕ)

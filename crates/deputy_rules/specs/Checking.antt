@@ -1,5 +1,5 @@
--- Derivations with lines: each statement and declaration in turn, up to the first that no rule derives. What is passed on is the function's checks
--- so far, with the atoms of their conditions.
+-- Derivations with lines: each statement and declaration in turn, up to the first that no rule derives. What is passed on is the function's
+-- checks so far, with the atoms of their conditions.
 use Rattle.std.specs.Prelude.{ℕ, List, [], ◌∷◌, ◌++◌, Result, Ok, Err}
 use Rattle.c_tree.specs.declared.limits.LimitKind.{LimitKind}
 

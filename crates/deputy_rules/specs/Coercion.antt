@@ -34,8 +34,8 @@ use Rattle.deputy_rules.specs.Values.{value_of, size_of, low_sum, high_sum}
 abbrev pub cast_part : Scalar → CheckedExpr → Part
 cast_part s e = atom_part (form.Unary Cast s e)
 
--- an integer expression in a check after its conversion to a type: the converted constant, the same expression where the type has each of its values,
--- or else its cast
+-- an integer expression in a check after its conversion to a type: the converted constant, the same expression where the type has each of
+-- its values, or else its cast
 abbrev pub side_by : Option ℤ → Scalar → Whole → Part
 side_by (Some z) s w = constant_part (converted s z)
 side_by None s w = if has_all s w.scalar then atom_part w.form else cast_part s w.form
@@ -55,7 +55,8 @@ handed_over p = record { form = p.form; null = false; at = p.at; low = p.low; hi
 unfoldable pub handed_value : Element → Bool → Value → Option Handed
 handed_value key nullterm value.Null = Some null
 handed_value key nullterm (value.Int w) = if is_written 0 w.written then Some null else None
-handed_value key nullterm (value.Pointer p) = if same_element p.elem key && same_truth p.nullterm nullterm then Some (handed_over p) else None
+handed_value key nullterm (value.Pointer p) =
+    if same_element p.elem key && same_truth p.nullterm nullterm then Some (handed_over p) else None
 
 -- what was derived, where such a pointer is wanted
 abbrev pub handed : Context → Element → Bool → Derived → Option Handed
@@ -65,8 +66,8 @@ handed ctx key nullterm d = and_then (value_of ctx d) (λ v. handed_value key nu
 unfoldable pub ask_aligned : Context → CheckKind → Sum → Sum → ℕ → Deriving (List ℕ)
 ask_aligned ctx k at low size = if nat_lt 1 size then (ask ctx k (Aligned at low size at) >>= λ id. pure (id ∷ [])) else pure []
 
--- the five checks of a coercion, each of which passes where the pointer is null. The pointer has the value `at` and the bounds `low` and `high`, its
--- new type the bounds `lower` and `higher`. The first four have the one kind, the fifth the other
+-- the five checks of a coercion, each of which passes where the pointer is null. The pointer has the value `at` and the bounds `low` and
+-- `high`, its new type the bounds `lower` and `higher`. The first four have the one kind, the fifth the other
 unfoldable pub coerce : Context → CheckKind → CheckKind → Sum → Sum → Sum → Sum → Sum → ℕ → Deriving (List ℕ)
 coerce ctx k align at low high lower higher size =
     ask ctx k (Guarded low lower at) >>= λ a. ask ctx k (Guarded lower at at) >>= λ b. ask ctx k (Guarded at higher at) >>= λ c.
@@ -76,7 +77,8 @@ coerce ctx k align at low high lower higher size =
 unfoldable pub coerce_within : Context → Handed → Sum → Sum → ℕ → Deriving (List ℕ)
 coerce_within ctx h lower higher size = if h.null then pure [] else coerce ctx kind.Bound kind.Align h.at h.low h.high lower higher size
 
--- the coercion to a pointer type with this element and annotation. A nullterm pointer, and one that takes its bounds with it, needs no check
+-- the coercion to a pointer type with this element and annotation. A nullterm pointer, and one that takes its bounds with it, needs no
+-- check
 unfoldable pub coerce_to : Context → Naming → Element → Bounds → Handed → Deriving (List ℕ)
 coerce_to ctx n key bounds.Hidden h = pure []
 coerce_to ctx n key bounds.Nullterm h = pure []

@@ -1,4 +1,5 @@
--- Deriving: a rule asks for checks one after another and gives something, or there is no rule. The state is the list of the checks asked for so far in the statement.
+-- Deriving: a rule asks for checks one after another and gives something, or there is no rule. The state is the list of the checks asked
+-- for so far in the statement.
 use Rattle.std.specs.Prelude.{◌≡◌, ◌≢◌, ℕ, ◌+◌, List, [], ◌∷◌, ◌++◌, length, Option, Some, None, Result, Ok, Err}
 use Rattle.sd_base.specs.declared.kinds.CheckKind.{CheckKind}
 use Rattle.deputy_rules.specs.declared.asked.Asked.{Asked}

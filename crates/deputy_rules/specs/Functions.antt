@@ -1,5 +1,6 @@
 -- Functions and whole texts: in text order, within a function its head, its parameters and locals, then its statements.
-use Rattle.std.specs.Prelude.{ℕ, nat_lt, not, if◌then◌else◌, List, [], ◌∷◌, ◌++◌, map, length, ℤ, pos, negsuc, Option, Some, None, Result, Ok, Err, ◌^◌, ◌≡◌}
+use Rattle.std.specs.Prelude.{ℕ, nat_lt, not, if◌then◌else◌, List, [], ◌∷◌, ◌++◌, map, length, ℤ, pos, negsuc, Option, Some, None, Result}
+use Rattle.std.specs.Prelude.{Ok, Err, ◌^◌, ◌≡◌}
 use Rattle.c_tree.specs.declared.items.Function.{Function}
 use Rattle.c_tree.specs.declared.items.Head.{Head}
 use Rattle.c_tree.specs.declared.items.Item.{Item}
@@ -20,7 +21,8 @@ use Rattle.deputy_rules.specs.declared.signature.Returned.{Returned}
 use Rattle.deputy_rules.specs.declared.signature.Returned.TheVariants as returned
 use Rattle.deputy_rules.specs.Checking.{Fault, NoRule, Limit, in_turn}
 use Rattle.deputy_rules.specs.Context.{Context}
-use Rattle.deputy_rules.specs.Heads.{SeenText, signature_of, parameter_shapes, slot_shapes, result_of, head_stands, function_stands, is_over, wrong_declaration, wrong_in_head}
+use Rattle.deputy_rules.specs.Heads.{SeenText, signature_of, parameter_shapes, slot_shapes, result_of, head_stands, function_stands}
+use Rattle.deputy_rules.specs.Heads.{is_over, wrong_declaration, wrong_in_head}
 use Rattle.deputy_rules.specs.Numbering.{Numbered}
 use Rattle.deputy_rules.specs.Statements.{check_statement}
 use Rattle.deputy_types.specs.Table.{Table}
@@ -29,7 +31,8 @@ use Rattle.deputy_types.specs.UnitLayout.{functions_of}
 unfoldable pub text_of : Table → List Item → SeenText
 text_of t items = record { table = t; items = items; functions = map (signature_of t) (functions_of items) }
 
--- how many bytes a pointer that is returned may reach from where it points. Where the number has no place in 32 bits, or is negative, the pointer is null
+-- how many bytes a pointer that is returned may reach from where it points. Where the number has no place in 32 bits, or is negative, the
+-- pointer is null
 abbrev pub reach_of : ℤ → ℕ
 reach_of (pos n) = if nat_lt n (2 ^ 32) then n else 0
 reach_of (negsuc n) = 0
@@ -107,7 +110,8 @@ abbrev pub behind_prototype : Option ℕ → Result (List CheckedFn) Fault → R
 behind_prototype None rest = rest
 behind_prototype (Some line) rest = Err (NoRule line)
 
-abbrev pub behind_function : List CheckedFn → Result CheckedFn Fault → (List CheckedFn → Result (List CheckedFn) Fault) → Result (List CheckedFn) Fault
+abbrev pub behind_function : List CheckedFn → Result CheckedFn Fault → (List CheckedFn → Result (List CheckedFn) Fault)
+    → Result (List CheckedFn) Fault
 behind_function done (Ok f) rest = rest (done ++ f ∷ [])
 behind_function done (Err e) rest = Err e
 

@@ -1,5 +1,6 @@
 -- Heads, parameters and locals: what a function is declared to take, to hold and to return, and which of these declarations stand.
-use Rattle.std.specs.Prelude.{ℕ, ◌+◌, nat_lt, Bool, true, false, ◌&&◌, if◌then◌else◌, List, [], ◌∷◌, ◌++◌, map, length, Option, Some, None, is_none, is_some, option_map, position, bytes_eq, slice_get}
+use Rattle.std.specs.Prelude.{ℕ, ◌+◌, nat_lt, Bool, true, false, ◌&&◌, if◌then◌else◌, List, [], ◌∷◌, ◌++◌, map, length, Option, Some, None}
+use Rattle.std.specs.Prelude.{is_none, is_some, option_map, position, bytes_eq, slice_get}
 use Rattle.std.specs.Option.{option_flatten}
 use Rattle.c_tree.specs.declared.items.Function.{Function}
 use Rattle.c_tree.specs.declared.items.Head.{Head}
@@ -125,7 +126,8 @@ seen_shapes shapes h = if is_none (wrong_in_head shapes h) then shapes else no_s
 
 -- what calls see of a function
 unfoldable pub signature_of : Table → Function → Signature
-signature_of t f = record { name = f.head.name; params = seen_shapes (parameter_shapes t f.head.params) f.head; result = result_of t f.head }
+signature_of t f =
+    record { name = f.head.name; params = seen_shapes (parameter_shapes t f.head.params) f.head; result = result_of t f.head }
 
 -- a text, as its functions see it: its types, its items, and its functions with bodies
 pub record SeenText : Type 0 where
@@ -177,12 +179,14 @@ declaration_stands locals shapes i name = same_place (slot_named locals name) (S
 -- the line of the first parameter, from the i-th on, that does not stand
 abbrev pub wrong_parameter : Locals → List (Option Shape) → ℕ → List Param → Option ℕ
 wrong_parameter locals shapes i [] = None
-wrong_parameter locals shapes i (p ∷ ps) = if declaration_stands locals shapes i p.name then wrong_parameter locals shapes (i + 1) ps else Some p.line
+wrong_parameter locals shapes i (p ∷ ps) =
+    if declaration_stands locals shapes i p.name then wrong_parameter locals shapes (i + 1) ps else Some p.line
 
 -- and of the first local
 abbrev pub wrong_local : Locals → List (Option Shape) → ℕ → List Local → Option ℕ
 wrong_local locals shapes i [] = None
-wrong_local locals shapes i (l ∷ ls) = if declaration_stands locals shapes i l.name then wrong_local locals shapes (i + 1) ls else Some l.line
+wrong_local locals shapes i (l ∷ ls) =
+    if declaration_stands locals shapes i l.name then wrong_local locals shapes (i + 1) ls else Some l.line
 
 -- the one, or else the other
 abbrev pub or_else : Option ℕ → Option ℕ → Option ℕ
@@ -191,4 +195,5 @@ or_else None other = other
 
 -- the line of the first parameter or local of a function that does not stand
 unfoldable pub wrong_declaration : Locals → List (Option Shape) → Function → Option ℕ
-wrong_declaration locals shapes f = or_else (wrong_parameter locals shapes 0 f.head.params) (wrong_local locals shapes (length f.head.params) f.locals)
+wrong_declaration locals shapes f =
+    or_else (wrong_parameter locals shapes 0 f.head.params) (wrong_local locals shapes (length f.head.params) f.locals)

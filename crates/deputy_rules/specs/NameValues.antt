@@ -1,4 +1,5 @@
--- Values of names: what the names in an annotation stand for in a state, so that the bounds that the rules write as sums are those that the annotation gives.
+-- Values of names: what the names in an annotation stand for in a state, so that the bounds that the rules write as sums are those that the
+-- annotation gives.
 use Rattle.std.specs.Prelude.{◌≡◌, IsTrue, ℕ, ◌+◌, ◌<◌, ◌^◌, List, [], ◌∷◌, All, ℤ, pos, Option, Some, None, Ok, slice_get, slice_index_or}
 use Rattle.byte_memory.specs.Tested.{is_inside}
 use Rattle.checked_tree.specs.declared.expressions.CheckedExpr.{CheckedExpr}
@@ -30,7 +31,8 @@ AreOnce (p ∷ ps) = IsOnce p × AreOnce ps
 -- the names of terms have the values of the siblings, and stand once
 abbrev pub TermsHave : State → Context → Naming → (ℕ → ℤ) → List (ℤ × ℕ) → Type 0
 TermsHave st ctx n sibling [] = Unit {0}
-TermsHave st ctx n sibling (t ∷ ts) = HasValue st (name_sum ctx n t.1) (sibling t.1) × AreOnce (name_sum ctx n t.1).parts × TermsHave st ctx n sibling ts
+TermsHave st ctx n sibling (t ∷ ts) =
+    HasValue st (name_sum ctx n t.1) (sibling t.1) × AreOnce (name_sum ctx n t.1).parts × TermsHave st ctx n sibling ts
 
 -- and so has the name with which an address begins
 abbrev pub BaseHas : State → Context → Naming → (ℕ → ℤ) → Option ℕ → Type 0

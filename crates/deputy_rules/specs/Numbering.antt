@@ -1,9 +1,10 @@
 -- Numbering: the checks that rules ask for, with their expressions as the atoms of the function. Atoms are numbered from 0 in the order of
--- their first use, in the checks as the rules write them: check by check, within a check the sides in the order in which the condition
--- is written, a guard behind them, and before the sides are merged. Equal expressions are one atom. Each linear form of a check is merged.
--- A form is light where the sizes of its coefficients are below 2^62 together, and those of its constants below 2^100. There is no number for
+-- their first use, in the checks as the rules write them: check by check, within a check the sides in the order in which the condition is
+-- written, a guard behind them, and before the sides are merged. Equal expressions are one atom. Each linear form of a check is merged. A
+-- form is light where the sizes of its coefficients are below 2^62 together, and those of its constants below 2^100. There is no number for
 -- what is heavier, which no check of a text within the limits is: it adds up a few thousand parts, each below 2^60.
-use Rattle.std.specs.Prelude.{◌≡◌, ◌≢◌, ℕ, ◌+◌, ◌^◌, ◌&&◌, Bool, true, false, nat_lt, List, [], ◌∷◌, ◌++◌, length, Option, Some, None, option_map, ℤ, pos, ◌*ℤ◌, neg_ℤ, unsigned_abs, if◌then◌else◌, Result, Ok, Err}
+use Rattle.std.specs.Prelude.{◌≡◌, ◌≢◌, ℕ, ◌+◌, ◌^◌, ◌&&◌, Bool, true, false, nat_lt, List, [], ◌∷◌, ◌++◌, length, Option, Some, None}
+use Rattle.std.specs.Prelude.{option_map, ℤ, pos, ◌*ℤ◌, neg_ℤ, unsigned_abs, if◌then◌else◌, Result, Ok, Err}
 use Rattle.std.specs.List.{position_or_len}
 use Rattle.dep_expr.specs.Linear.{LinearForm, number_form, term_form, plus}
 use Rattle.dep_expr.specs.Merged.{merged}
@@ -47,11 +48,13 @@ if_light f = if nat_lt f.coefficients (2 ^ 62) && nat_lt f.constants (2 ^ 100) t
 
 -- a number more
 unfoldable pub with_number : ℤ → Forming → Option Forming
-with_number z f = if_light (record { form = plus f.form (number_form z); coefficients = f.coefficients; constants = f.constants + unsigned_abs z })
+with_number z f =
+    if_light (record { form = plus f.form (number_form z); coefficients = f.coefficients; constants = f.constants + unsigned_abs z })
 
 -- so many times an atom more
 unfoldable pub with_term : ℤ → ℕ → Forming → Option Forming
-with_term k atom f = if_light (record { form = plus f.form (term_form (k, atom)); coefficients = f.coefficients + unsigned_abs k; constants = f.constants })
+with_term k atom f =
+    if_light (record { form = plus f.form (term_form (k, atom)); coefficients = f.coefficients + unsigned_abs k; constants = f.constants })
 
 -- a number of the left side, or of the right one, which is taken away
 abbrev pub signed : Bool → ℤ → ℤ
@@ -129,7 +132,8 @@ pub record Numbered : Type 0 where
 
 -- one check more. Checks are numbered from 1
 abbrev pub with_cond : Asked → List Check → Cond × List CheckedExpr → Numbered
-with_cond q checks c = record { atoms = c.1; checks = checks ++ (record { id = length checks + 1; line = q.line; kind = q.kind; cond = c.0 }) ∷ [] }
+with_cond q checks c =
+    record { atoms = c.1; checks = checks ++ (record { id = length checks + 1; line = q.line; kind = q.kind; cond = c.0 }) ∷ [] }
 
 unfoldable pub with_check : Numbered → Asked → Option Numbered
 with_check n q = option_map (with_cond q n.checks) (conditioned q.cond n.atoms)

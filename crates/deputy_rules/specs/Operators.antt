@@ -1,5 +1,6 @@
 -- Operators: what each makes of integers and pointers, with its checks.
-use Rattle.std.specs.Prelude.{ℕ, Bool, true, false, ◌&&◌, if◌then◌else◌, List, [], ◌∷◌, ℤ, pos, neg_ℤ, Option, Some, None, option_map, nat_lt}
+use Rattle.std.specs.Prelude.{ℕ, Bool, true, false, ◌&&◌, if◌then◌else◌, List, [], ◌∷◌, ℤ, pos, neg_ℤ, Option, Some, None, option_map}
+use Rattle.std.specs.Prelude.{nat_lt}
 use Rattle.sd_base.specs.declared.kinds.CheckKind.TheVariants as kind
 use Rattle.c_tree.specs.declared.expressions.Binary.{Binary}
 use Rattle.c_tree.specs.declared.expressions.Binary.TheVariants as binary_op

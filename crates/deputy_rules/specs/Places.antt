@@ -1,5 +1,6 @@
 -- Places: names, what a pointer points to, elements, fields and arms, each with its checks.
-use Rattle.std.specs.Prelude.{ℕ, Bool, true, false, not, if◌then◌else◌, List, [], ◌∷◌, ◌++◌, ℤ, pos, Option, Some, None, option_map, slice_get}
+use Rattle.std.specs.Prelude.{ℕ, Bool, true, false, not, if◌then◌else◌, List, [], ◌∷◌, ◌++◌, ℤ, pos, Option, Some, None, option_map}
+use Rattle.std.specs.Prelude.{slice_get}
 use Rattle.sd_base.specs.declared.kinds.CheckKind.TheVariants as kind
 use Rattle.c_tree.specs.Slots.{slot_named}
 use Rattle.checked_tree.specs.declared.expressions.CheckedExpr.TheVariants as form
@@ -37,7 +38,8 @@ block_place true b key = derived.Array (record { form = form.Block b.base; at = 
 block_place false b key = derived.Place (record { form = form.Block b.base; at = constant (pos b.base); source = source.Element key })
 
 unfoldable pub global_place : Context → GlobalPlace → Option Derived
-global_place ctx g = and_then (slice_get ctx.table.image g.block) (λ b. option_map (λ key. block_place g.array b key) (element_at ctx.table b.elem))
+global_place ctx g =
+    and_then (slice_get ctx.table.image g.block) (λ b. option_map (λ key. block_place g.array b key) (element_at ctx.table b.elem))
 
 -- a parameter or local whose declaration is derived
 abbrev pub local_of : Context → ℕ → Option Derived
@@ -107,7 +109,8 @@ index_checks ctx p i size at =
 -- `e[i]`, e not nullterm, i integer: the place `v + s*i`
 abbrev pub indexed_at : Context → Pointed → Whole → ℕ → Sum → Deriving Derived
 indexed_at ctx p i size at =
-    index_checks ctx p i size at >>= λ checks. pure (derived.Place (record { form = form.Element p.form i.form size checks; at = at; source = source.Element p.elem }))
+    index_checks ctx p i size at >>= λ checks.
+    pure (derived.Place (record { form = form.Element p.form i.form size checks; at = at; source = source.Element p.elem }))
 
 unfoldable pub indexed : Context → Pointed → Whole → Deriving Derived
 indexed ctx p i = indexed_at ctx p i (size_of ctx p.elem) (moved_sum p.at i (pos (size_of ctx p.elem)))
@@ -128,13 +131,17 @@ struct_of ctx (source.Member s m) = struct_by (member_shape ctx.table s m)
 
 -- a member that is an array, and one that is none, at their offset
 abbrev pub plain_member : Place → ℕ → ℕ → ℕ → Derived
-plain_member p s m offset = derived.Place (record { form = form.Field p.form offset []; at = beyond p.at (pos offset); source = source.Member s m })
+plain_member p s m offset =
+    derived.Place (record { form = form.Field p.form offset []; at = beyond p.at (pos offset); source = source.Member s m })
 
 abbrev pub array_member : Place → ℕ → ℕ → Element → Derived
-array_member p offset count k = derived.Array (record { form = form.Field p.form offset []; at = beyond p.at (pos offset); elem = k; count = count })
+array_member p offset count k =
+    derived.Array (record { form = form.Field p.form offset []; at = beyond p.at (pos offset); elem = k; count = count })
 
 abbrev pub member_at : Context → Place → ℕ → ℕ → Member → Option Derived
-member_at ctx p s m x = if is_array ctx.table s m then option_map (λ k. array_member p x.offset x.count k) (member_key ctx.table s m) else Some (plain_member p s m x.offset)
+member_at ctx p s m x =
+    if is_array ctx.table s m then option_map (λ k. array_member p x.offset x.count k) (member_key ctx.table s m)
+    else Some (plain_member p s m x.offset)
 
 -- `l.f`, a field of the struct place l: the place of l plus the offset
 unfoldable pub member_place : Context → Place → ℕ → ℕ → Option Derived
@@ -154,7 +161,8 @@ part_of ctx p f = and_then (struct_of ctx p.source) (λ s. part_by ctx p s f (fi
 
 -- what is looked up of an arm with its union's tag
 abbrev pub found_with : ℕ → Member → Member → ℕ × ℤ → FoundArm
-found_with m x tag case = record { number = m; offset = x.offset; constant = case.1; tag_offset = tag.offset; tag_scalar = loaded_as tag.shape }
+found_with m x tag case =
+    record { number = m; offset = x.offset; constant = case.1; tag_offset = tag.offset; tag_scalar = loaded_as tag.shape }
 
 abbrev pub found_in : Context → ℕ → ℕ → Member → UnionShape → Option FoundArm
 found_in ctx s m x u = and_then (member ctx.table s u.tag) (λ tag. option_map (λ case. found_with m x tag case) x.arm)
@@ -169,7 +177,11 @@ found_arm ctx s u a = and_then (arm ctx.table s u a) (λ m. found_member ctx s u
 abbrev pub arm_at : Context → UnionPlace → FoundArm → Deriving Derived
 arm_at ctx u x =
     ask ctx kind.Tag (cond.Equal (member_part u.container x.tag_scalar x.tag_offset) x.constant) >>= λ a.
-    pure (derived.Place (record { form = form.Field u.container x.offset (a ∷ []); at = beyond u.at (pos x.offset); source = source.Member u.structure x.number }))
+    pure (derived.Place (record {
+      form = form.Field u.container x.offset (a ∷ []);
+      at = beyond u.at (pos x.offset);
+      source = source.Member u.structure x.number;
+    }))
 
 unfoldable pub arm_place : Context → UnionPlace → List ℕ → Deriving Derived
 arm_place ctx u a = lift (found_arm ctx u.structure u.part a) >>= λ x. arm_at ctx u x

@@ -1,5 +1,6 @@
 -- Pointers: addresses, strings, and sums of a pointer and an integer, each with its checks.
-use Rattle.std.specs.Prelude.{ℕ, Bool, true, false, not, ◌&&◌, ◌==◌, if◌then◌else◌, List, [], ◌∷◌, ◌++◌, ℤ, pos, neg_ℤ, Option, Some, None, is_none, option_map, slice_get}
+use Rattle.std.specs.Prelude.{ℕ, Bool, true, false, not, ◌&&◌, ◌==◌, if◌then◌else◌, List, [], ◌∷◌, ◌++◌, ℤ, pos, neg_ℤ, Option, Some, None}
+use Rattle.std.specs.Prelude.{is_none, option_map, slice_get}
 use Rattle.sd_base.specs.declared.kinds.CheckKind.TheVariants as kind
 use Rattle.checked_tree.specs.declared.expressions.CheckedExpr.TheVariants as form
 use Rattle.checked_tree.specs.declared.expressions.PointerSum.{PointerSum}
@@ -35,7 +36,16 @@ pointer p = derived.Value (value.Pointer p)
 
 -- a string: nullterm, at its first byte. Its address is a constant, the base of its block
 abbrev pub string_at : ImageBlock → Derived
-string_at b = pointer (record { form = form.AddressOf (form.Block b.base); elem = key.Int scalar.U8; nullterm = true; sure = true; at = constant (pos b.base); low = constant (pos b.base); high = constant (pos b.base) })
+string_at b =
+    pointer (record {
+      form = form.AddressOf (form.Block b.base);
+      elem = key.Int scalar.U8;
+      nullterm = true;
+      sure = true;
+      at = constant (pos b.base);
+      low = constant (pos b.base);
+      high = constant (pos b.base);
+    })
 
 unfoldable pub string : Context → ℕ → Option Derived
 string ctx k = and_then (literal ctx.table k) (λ n. option_map string_at (slice_get ctx.table.image n))
@@ -55,7 +65,16 @@ addressed ctx (source.Member s m) = addressed_member ctx s m
 
 -- `&l`: `v = lo = a`, `hi = a + s`
 abbrev pub address_at : Context → Place → Element → Derived
-address_at ctx p k = pointer (record { form = form.AddressOf p.form; elem = k; nullterm = false; sure = true; at = p.at; low = p.at; high = beyond p.at (pos (size_of ctx k)) })
+address_at ctx p k =
+    pointer (record {
+      form = form.AddressOf p.form;
+      elem = k;
+      nullterm = false;
+      sure = true;
+      at = p.at;
+      low = p.at;
+      high = beyond p.at (pos (size_of ctx k));
+    })
 
 unfoldable pub address_of_place : Context → Place → Option Derived
 address_of_place ctx p = option_map (λ k. address_at ctx p k) (addressed ctx p.source)
@@ -88,14 +107,23 @@ may_rise pointer_sum.PointerMinus unsigned = not unsigned
 -- Null, and the two Bounds
 abbrev pub move_checks : Context → PointerSum → Pointed → Whole → Sum → Deriving (List ℕ)
 move_checks ctx how p i at =
-    not_null ctx p >>= λ a. not_below ctx (may_fall how (is_unsigned i.scalar)) p.low at >>= λ b. not_above ctx (may_rise how (is_unsigned i.scalar)) at p.high >>= λ c.
+    not_null ctx p >>= λ a. not_below ctx (may_fall how (is_unsigned i.scalar)) p.low at >>= λ b.
+    not_above ctx (may_rise how (is_unsigned i.scalar)) at p.high >>= λ c.
     pure ((a ++ b) ++ c)
 
 -- `e + i`, `i + e`, `e - i`, e not nullterm: `v` moved by `s*i`, same bounds
 abbrev pub moved_to : Context → PointerSum → Pointed → Whole → ℕ → Sum → Deriving Derived
 moved_to ctx how p i size at =
     move_checks ctx how p i at >>= λ checks.
-    pure (pointer (record { form = form.Moved how p.form i.form size checks; elem = p.elem; nullterm = false; sure = true; at = at; low = p.low; high = p.high }))
+    pure (pointer (record {
+      form = form.Moved how p.form i.form size checks;
+      elem = p.elem;
+      nullterm = false;
+      sure = true;
+      at = at;
+      low = p.low;
+      high = p.high;
+    }))
 
 unfoldable pub moved : Context → PointerSum → Pointed → Whole → Deriving Derived
 moved ctx how p i = moved_to ctx how p i (size_of ctx p.elem) (moved_sum p.at i (step_size how (size_of ctx p.elem)))
@@ -119,7 +147,15 @@ text_checks ctx p i = not_null ctx p >>= λ a. not_ended ctx (is_written 1 i.wri
 abbrev pub text_to : Context → Pointed → Whole → ℕ → Sum → Deriving Pointed
 text_to ctx p i size at =
     text_checks ctx p i >>= λ checks.
-    pure (record { form = form.Moved pointer_sum.PointerPlus p.form i.form size checks; elem = p.elem; nullterm = true; sure = true; at = at; low = at; high = at })
+    pure (record {
+      form = form.Moved pointer_sum.PointerPlus p.form i.form size checks;
+      elem = p.elem;
+      nullterm = true;
+      sure = true;
+      at = at;
+      low = at;
+      high = at;
+    })
 
 unfoldable pub text_moved : Context → Pointed → Whole → Deriving Pointed
 text_moved ctx p i = text_to ctx p i (size_of ctx p.elem) (moved_sum p.at i (pos (size_of ctx p.elem)))

@@ -19,8 +19,10 @@ pub record HasHidden (f : Function) (k : ℕ) (l : Local) : Type 0 where
 
 -- parameters have the first slots, locals those behind; hidden slots stand behind all
 pub record AreSlots (f : Function) : Type 0 where
-  pub parameters : (k : ℕ) (p : Param) → slice_get f.head.params k ≡ Some p → IsSlot f k (parameter p) (Some p.name) × (hidden_slot (locals_of f) k ≡ None)
+  pub parameters : (k : ℕ) (p : Param) → slice_get f.head.params k ≡ Some p
+      → IsSlot f k (parameter p) (Some p.name) × (hidden_slot (locals_of f) k ≡ None)
   pub locals : (j : ℕ) (l : Local) → slice_get f.locals j ≡ Some l → IsSlot f (length f.head.params + j) (local l) (Some l.name)
-  pub plain : (j : ℕ) (l : Local) → slice_get f.locals j ≡ Some l → is_automatic l ≡ false → hidden_slot (locals_of f) (length f.head.params + j) ≡ None
+  pub plain : (j : ℕ) (l : Local) → slice_get f.locals j ≡ Some l → is_automatic l ≡ false
+      → hidden_slot (locals_of f) (length f.head.params + j) ≡ None
   pub automatic : (j : ℕ) (l : Local) → slice_get f.locals j ≡ Some l → is_automatic l ≡ true → HasHidden f (length f.head.params + j) l
   pub all : length (slots f) ≡ length f.head.params + (length f.locals + length (hidden_slots f.locals))

@@ -116,7 +116,8 @@ otherwise None = done []
 otherwise (Some p) = p
 
 -- an `if`, and a `while`, with the derivations of their bodies
-abbrev pub if_level : Context → ℕ → Expr → Checking Numbered (List CheckedStmt) → Checking Numbered (List CheckedStmt) → Checking Numbered CheckedStmt
+abbrev pub if_level : Context → ℕ → Expr → Checking Numbered (List CheckedStmt) → Checking Numbered (List CheckedStmt)
+    → Checking Numbered CheckedStmt
 if_level ctx line e a b = condition ctx line e >>> λ x. a >>> λ holds. b >>> λ fails. done (statement.If line x holds fails)
 
 abbrev pub while_level : Context → ℕ → Expr → Checking Numbered (List CheckedStmt) → Checking Numbered CheckedStmt
@@ -127,21 +128,25 @@ unfoldable pub single : Context → Home → Simple → Checking Numbered (List 
 single ctx home s = simple ctx home s >>> λ x. done (x ∷ [])
 
 -- one level of a body and of a statement
-abbrev pub body_level : Context → Home → Body-F (Checking Numbered (List CheckedStmt)) (Checking Numbered CheckedStmt) → Checking Numbered (List CheckedStmt)
+abbrev pub body_level : Context → Home → Body-F (Checking Numbered (List CheckedStmt)) (Checking Numbered CheckedStmt)
+    → Checking Numbered (List CheckedStmt)
 body_level ctx home (Body-F.Block ss) = in_turn ss []
 body_level ctx home (Body-F.Single s) = single ctx home s
 
-abbrev pub statement_level : Context → Home → Stmt-F (Checking Numbered (List CheckedStmt)) (Checking Numbered CheckedStmt) → Checking Numbered CheckedStmt
+abbrev pub statement_level : Context → Home → Stmt-F (Checking Numbered (List CheckedStmt)) (Checking Numbered CheckedStmt)
+    → Checking Numbered CheckedStmt
 statement_level ctx home (Stmt-F.Simple s) = simple ctx home s
 statement_level ctx home (Stmt-F.If line e a b) = if_level ctx line e a (otherwise b)
 statement_level ctx home (Stmt-F.While line e a) = while_level ctx line e a
 
 -- a statement, and a body
 unfoldable pub check_statement : Context → Home → Stmt → Checking Numbered CheckedStmt
-check_statement ctx home = fold-Stmt (Checking Numbered (List CheckedStmt)) (Checking Numbered CheckedStmt) (body_level ctx home) (statement_level ctx home)
+check_statement ctx home =
+    fold-Stmt (Checking Numbered (List CheckedStmt)) (Checking Numbered CheckedStmt) (body_level ctx home) (statement_level ctx home)
 
 unfoldable pub check_body : Context → Home → Body → Checking Numbered (List CheckedStmt)
-check_body ctx home = fold-Body (Checking Numbered (List CheckedStmt)) (Checking Numbered CheckedStmt) (body_level ctx home) (statement_level ctx home)
+check_body ctx home =
+    fold-Body (Checking Numbered (List CheckedStmt)) (Checking Numbered CheckedStmt) (body_level ctx home) (statement_level ctx home)
 
 -- the body behind an `else`, if there is one
 abbrev pub check_otherwise : Context → Home → Option Body → Checking Numbered (List CheckedStmt)

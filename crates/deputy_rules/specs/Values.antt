@@ -1,5 +1,6 @@
 -- Reading: the value of a local or of a place, with the bounds that its annotation gives, the names read in the same struct or function.
-use Rattle.std.specs.Prelude.{ℕ, ◌+◌, Bool, true, false, ◌==◌, if◌then◌else◌, List, [], ◌∷◌, ℤ, pos, Option, Some, None, option_map, slice_get, unwrap_or}
+use Rattle.std.specs.Prelude.{ℕ, ◌+◌, Bool, true, false, ◌==◌, if◌then◌else◌, List, [], ◌∷◌, ℤ, pos, Option, Some, None, option_map}
+use Rattle.std.specs.Prelude.{slice_get, unwrap_or}
 use Rattle.c_tree.specs.Slots.{hidden_slot}
 use Rattle.checked_tree.specs.declared.expressions.CheckedExpr.{CheckedExpr, out-CheckedExpr}
 use Rattle.checked_tree.specs.declared.expressions.CheckedExpr.TheOpen as E
@@ -120,15 +121,19 @@ integer e s = value.Int (record { form = e; scalar = s; written = written.Other 
 
 -- a pointer that is read, with these bounds beside its value
 abbrev pub pointer_to : CheckedExpr → Element → Bool → Sum → Sum → Value
-pointer_to e key nullterm low high = value.Pointer (record { form = e; elem = key; nullterm = nullterm; sure = false; at = atom e; low = low; high = high })
+pointer_to e key nullterm low high =
+    value.Pointer (record { form = e; elem = key; nullterm = nullterm; sure = false; at = atom e; low = low; high = high })
 
 -- a pointer with the bounds of its annotation
 unfoldable pub bounded_pointer : Context → Naming → CheckedExpr → ℕ → Bounds → Option Value
-bounded_pointer ctx n e elem b = option_map (λ key. pointer_to e key (is_nullterm b) (low_sum ctx n (atom e) b) (high_sum ctx n (atom e) b)) (element_at ctx.table elem)
+bounded_pointer ctx n e elem b =
+    option_map (λ key. pointer_to e key (is_nullterm b) (low_sum ctx n (atom e) b) (high_sum ctx n (atom e) b)) (element_at ctx.table elem)
 
 -- a local pointer whose bounds lie in two hidden slots
 unfoldable pub hidden_pointer : Context → ℕ → ℕ → Option Value
-hidden_pointer ctx slot elem = and_then (hidden_slot ctx.locals slot) (λ h. option_map (λ key. pointer_to (form.Local slot) key false (slot_sum h) (slot_sum (h + 1))) (element_at ctx.table elem))
+hidden_pointer ctx slot elem =
+    and_then (hidden_slot ctx.locals slot) (λ h. option_map
+    (λ key. pointer_to (form.Local slot) key false (slot_sum h) (slot_sum (h + 1))) (element_at ctx.table elem))
 
 -- names that are read in the function, and in a struct place, as they are
 abbrev pub of_slots : Naming
@@ -156,7 +161,9 @@ local_value ctx slot = and_then (slot_shape ctx slot) (λ x. slot_value ctx slot
 
 -- a pointer with a constant annotation that lets it reach so many elements
 unfoldable pub counted_pointer : Context → CheckedExpr → ℕ → ℤ → Option Value
-counted_pointer ctx e n count = option_map (λ key. pointer_to e key false (atom e) (with_part (atom e) (Constant count (pos (size_of ctx key))))) (element_at ctx.table n)
+counted_pointer ctx e n count =
+    option_map (λ key. pointer_to e key false (atom e) (with_part (atom e) (Constant count (pos (size_of ctx key)))))
+    (element_at ctx.table n)
 
 -- a pointer to text
 unfoldable pub text_pointer : Context → CheckedExpr → ℕ → Option Value
@@ -193,7 +200,16 @@ source_value ctx place (source.Member s m) = and_then (member ctx.table s m) (λ
 
 -- an array as a pointer to its first element: it is never null, and its bounds are those of the array
 unfoldable pub array_value : Context → ArrayPlace → Value
-array_value ctx a = value.Pointer (record { form = form.AddressOf a.form; elem = a.elem; nullterm = false; sure = true; at = a.at; low = a.at; high = with_part a.at (Constant (pos a.count) (pos (size_of ctx a.elem))) })
+array_value ctx a =
+    value.Pointer (record {
+      form = form.AddressOf a.form;
+      elem = a.elem;
+      nullterm = false;
+      sure = true;
+      at = a.at;
+      low = a.at;
+      high = with_part a.at (Constant (pos a.count) (pos (size_of ctx a.elem)));
+    })
 
 -- the value of what was derived: a place or a local is read, and a struct or a union has none
 unfoldable pub value_of : Context → Derived → Option Value

@@ -14,9 +14,11 @@ Holds memory b = (i : ℕ) → i < b.size → slice_index_or memory (b.base + i)
 
 -- in such a memory each element of the block fits its type, whatever blocks are granted
 abbrev pub FitsAtFirst : Table → ImageBlock → Type 0
-FitsAtFirst t b = (granted : List Block) (memory : List ℕ) (x : Shape) (j : ℕ) → Holds memory b → slice_get t.elems b.elem ≡ Some x → j < b.count
+FitsAtFirst t b =
+    (granted : List Block) (memory : List ℕ) (x : Shape) (j : ℕ) → Holds memory b → slice_get t.elems b.elem ≡ Some x → j < b.count
     → BytesFit granted t.elems t.structs memory (b.base + j * shape_size t.structs x) x
 
 -- so it is with each block of the image of each text
 abbrev pub EachBlockFitsAtFirst : Type 0
-EachBlockFitsAtFirst = (u : TextUnit) (t : Table) (n : ℕ) (b : ImageBlock) → layout u ≡ Ok t → slice_get t.image n ≡ Some b → FitsAtFirst t b
+EachBlockFitsAtFirst =
+    (u : TextUnit) (t : Table) (n : ℕ) (b : ImageBlock) → layout u ≡ Ok t → slice_get t.image n ≡ Some b → FitsAtFirst t b

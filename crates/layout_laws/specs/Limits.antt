@@ -1,4 +1,5 @@
--- The limits that a table keeps: at most 256 structs of at most 64 fields and 65,536 bytes, at most 1,024 globals and strings, at most 4,096 functions.
+-- The limits that a table keeps: at most 256 structs of at most 64 fields and 65,536 bytes, at most 1,024 globals and strings, at most
+-- 4,096 functions.
 use Rattle.std.specs.Prelude.{◌≡◌, ℕ, ◌≤◌, length, All, Some, slice_get, Ok}
 use Rattle.c_tree.specs.declared.items.StructItem.{StructItem}
 use Rattle.c_tree.specs.declared.items.Unit.{Unit as TextUnit}

@@ -1,4 +1,5 @@
--- The load image of a text: one block for each global, then one for each string, each in text order; where they lie, and what they hold at first.
+-- The load image of a text: one block for each global, then one for each string, each in text order; where they lie, and what they hold at
+-- first.
 use Rattle.std.specs.Prelude.{◌≡◌, ℕ, ◌+◌, ◌*◌, ◌≤◌, true, false, List, [], ◌∷◌, ◌++◌, length, Option, Some, None, slice_get, All, Ok}
 use Rattle.c_tree.specs.declared.items.Const.{Const}
 use Rattle.c_tree.specs.declared.items.GlobalItem.{GlobalItem}
@@ -51,7 +52,8 @@ pub record IsWithinImage (b : ImageBlock) : Type 0 where
 -- what a global without a value holds: zeros
 abbrev pub HoldsFirst : Table → ImageBlock → Option Const → Type 0
 HoldsFirst t b None = AreZero b.bytes 0 b.size
-HoldsFirst t b (Some c) = (s : Scalar) × (slice_get t.elems b.elem ≡ Some (shape.Int s)) × (place_value b.bytes 0 (shape.Int s) ≡ converted s (const_value c))
+HoldsFirst t b (Some c) =
+    (s : Scalar) × (slice_get t.elems b.elem ≡ Some (shape.Int s)) × (place_value b.bytes 0 (shape.Int s) ≡ converted s (const_value c))
 
 -- the block of a global: as many elements of its type as it is declared with, and its first value, converted to its type, or zeros
 pub record IsBlockOfGlobal (t : Table) (g : GlobalItem) (b : ImageBlock) : Type 0 where

@@ -23,10 +23,12 @@ pub record FindsStructs (t : Table) (structs : List StructItem) : Type 0 where
 abbrev pub EachStructIsFound : Type 0
 EachStructIsFound = (u : TextUnit) (t : Table) → layout u ≡ Ok t → FindsStructs t (struct_items u.items)
 
--- the block of a global's name is its place among the globals of the text, it is an array where it was declared as one, and no other global has the name
+-- the block of a global's name is its place among the globals of the text, it is an array where it was declared as one, and no other global
+-- has the name
 pub record FindsGlobals (t : Table) (globals : List GlobalItem) : Type 0 where
   pub names : length t.globals ≡ length globals
-  pub found : (k : ℕ) (g : GlobalItem) → slice_get globals k ≡ Some g → global t g.declaration.name ≡ Some (record { block = k; array = is_some g.declaration.size })
+  pub found : (k : ℕ) (g : GlobalItem) → slice_get globals k ≡ Some g
+      → global t g.declaration.name ≡ Some (record { block = k; array = is_some g.declaration.size })
   pub only : (name : List ℕ) (p : GlobalPlace) → global t name ≡ Some p → IsDeclaredAt globals (λ g. g.declaration.name) p.block name
 
 -- a unit of less than 2^32 - 1 items: a text, whose bytes are fewer, has no other
@@ -39,4 +41,5 @@ pub record FindsStrings (t : Table) (globals : List GlobalItem) (strings : List 
   pub only : (k n : ℕ) → literal t k ≡ Some n → (k < length strings) × (n ≡ length globals + k)
 
 abbrev pub EachStringIsFound : Type 0
-EachStringIsFound = (u : TextUnit) (t : Table) → length u.items < 2 ^ 32 - 1 → layout u ≡ Ok t → FindsStrings t (global_items u.items) (text_strings u)
+EachStringIsFound =
+    (u : TextUnit) (t : Table) → length u.items < 2 ^ 32 - 1 → layout u ≡ Ok t → FindsStrings t (global_items u.items) (text_strings u)

@@ -1,4 +1,5 @@
--- What is looked up in a struct by a name is the field, the arm or the union that was declared with it, and nothing else in the struct has the name.
+-- What is looked up in a struct by a name is the field, the arm or the union that was declared with it, and nothing else in the struct has
+-- the name.
 use Rattle.std.specs.Prelude.{◌≡◌, ℕ, ◌+◌, ◌<◌, ◌^◌, List, [], ◌∷◌, ◌++◌, length, Option, Some, None, slice_get, Ok}
 use Rattle.c_tree.specs.declared.items.Arm.{Arm}
 use Rattle.c_tree.specs.declared.items.Field.{Field}
@@ -15,7 +16,8 @@ abbrev pub arm_names : ℕ → List Arm → List MemberName
 arm_names part [] = []
 arm_names part (a ∷ arms) = record { part = Some part; name = a.name } ∷ arm_names part arms
 
--- the names of the members of fields in text order, where the next union has the number `part`: each field that is no union, and each arm of a union
+-- the names of the members of fields in text order, where the next union has the number `part`: each field that is no union, and each arm
+-- of a union
 abbrev pub member_names : ℕ → List Field → List MemberName
 member_names part [] = []
 member_names part (field_form.Plain line d ∷ fields) = record { part = None; name = d.name } ∷ member_names part fields
@@ -32,15 +34,18 @@ abbrev pub look_up : Table → ℕ → Option ℕ → List ℕ → Option ℕ
 look_up t s None name = field t s name
 look_up t s (Some part) name = arm t s part name
 
--- the number of a member's name is its place among the members of its declaration, and no other has the name; and so of unions. There are less than 2^32 members
+-- the number of a member's name is its place among the members of its declaration, and no other has the name; and so of unions. There are
+-- less than 2^32 members
 pub record FindsMembers (t : Table) (s : ℕ) (d : StructItem) : Type 0 where
   pub members : length (members_of t s) ≡ length (member_names 0 d.fields)
   pub few : length (members_of t s) < 2 ^ 32
   pub found : (k : ℕ) (m : MemberName) → slice_get (member_names 0 d.fields) k ≡ Some m → look_up t s m.part m.name ≡ Some k
-  pub only : (part : Option ℕ) (name : List ℕ) (k : ℕ) → look_up t s part name ≡ Some k → slice_get (member_names 0 d.fields) k ≡ Some (record { part = part; name = name })
+  pub only : (part : Option ℕ) (name : List ℕ) (k : ℕ) → look_up t s part name ≡ Some k
+      → slice_get (member_names 0 d.fields) k ≡ Some (record { part = part; name = name })
   pub union_found : (k : ℕ) (name : List ℕ) → slice_get (union_names d.fields) k ≡ Some name → union_of t s name ≡ Some k
   pub union_only : (name : List ℕ) (k : ℕ) → union_of t s name ≡ Some k → slice_get (union_names d.fields) k ≡ Some name
 
 -- so in each struct of each table
 abbrev pub EachMemberIsFound : Type 0
-EachMemberIsFound = (u : TextUnit) (t : Table) (s : ℕ) (d : StructItem) → layout u ≡ Ok t → slice_get (struct_items u.items) s ≡ Some d → FindsMembers t s d
+EachMemberIsFound =
+    (u : TextUnit) (t : Table) (s : ℕ) (d : StructItem) → layout u ≡ Ok t → slice_get (struct_items u.items) s ≡ Some d → FindsMembers t s d

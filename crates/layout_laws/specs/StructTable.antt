@@ -1,4 +1,5 @@
--- The structs of a text's table: as many as the text declares, in its order, each the layout of its own declaration with the extents of all.
+-- The structs of a text's table: as many as the text declares, in its order, each the layout of its own declaration with the extents of
+-- all.
 use Rattle.std.specs.Prelude.{◌≡◌, ℕ, List, [], ◌∷◌, length, Some, slice_get, Ok, IsOkAnd}
 use Rattle.c_tree.specs.declared.items.Item.{Item}
 use Rattle.c_tree.specs.declared.items.Item.TheVariants as item
@@ -27,10 +28,12 @@ pub record HasStruct (t : Table) (number : ℕ) (x : StructShape) (n : StructNam
   pub names : slice_get t.names number ≡ Some n
   pub extent : slice_get t.extents number ≡ Some room
 
--- the struct with this number is the layout of this declaration with the extents of all structs of the table: each member lies at a multiple of its
--- alignment, behind those before it and within the struct
+-- the struct with this number is the layout of this declaration with the extents of all structs of the table: each member lies at a
+-- multiple of its alignment, behind those before it and within the struct
 abbrev pub IsLaidAt : Table → ℕ → StructItem → Type 0
-IsLaidAt t number s = IsOkAnd (struct_laid t.types t.extents number s) (λ laid. HasStruct t number laid.shape laid.names laid.extent × IsLaidOut t.extents laid)
+IsLaidAt t number s =
+    IsOkAnd (struct_laid t.types t.extents number s)
+    (λ laid. HasStruct t number laid.shape laid.names laid.extent × IsLaidOut t.extents laid)
 
 -- a table has as many structs as these, each the layout of the declaration with its number
 pub record HasStructs (t : Table) (items : List StructItem) : Type 0 where

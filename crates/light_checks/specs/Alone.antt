@@ -1,5 +1,5 @@
--- Where an expression may be checked by itself (`check_expr` of rules_stmt): in a function of a short unit, whose declarations stand, with the unit's table and the
--- function's slots.
+-- Where an expression may be checked by itself (`check_expr` of rules_stmt): in a function of a short unit, whose declarations stand, with
+-- the unit's table and the function's slots.
 use Rattle.std.specs.Prelude.{◌≡◌, Ok, Contains}
 use Rattle.c_tree.specs.declared.items.Function.{Function}
 use Rattle.c_tree.specs.declared.items.Item.TheVariants as item

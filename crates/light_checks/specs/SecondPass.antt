@@ -1,4 +1,5 @@
--- Structs are laid out twice, with the extents of those before them and with those of all. In a short unit the second time refuses none that the first laid out.
+-- Structs are laid out twice, with the extents of those before them and with those of all. In a short unit the second time refuses none
+-- that the first laid out.
 use Rattle.std.specs.Prelude.{ℕ, List, IfOk, IsOkAnd}
 use Rattle.c_tree.specs.declared.items.Unit.{Unit as TextUnit}
 use Rattle.c_tree.specs.ShortUnit.{IsShortUnit}

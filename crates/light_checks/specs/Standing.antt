@@ -1,4 +1,5 @@
--- A function whose declarations stand: it has at most 128 slots, and each parameter and local is the first of its name and of a type that the rules derive.
+-- A function whose declarations stand: it has at most 128 slots, and each parameter and local is the first of its name and of a type that
+-- the rules derive.
 use Rattle.std.specs.Prelude.{◌≡◌, false, None}
 use Rattle.c_tree.specs.declared.items.Function.{Function}
 use Rattle.c_tree.specs.Slots.{locals_of}

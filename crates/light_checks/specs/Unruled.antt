@@ -1,4 +1,5 @@
--- What no rule derives in a body: a simple statement or a condition in it, behind some checks of its function, and the line on which it stands.
+-- What no rule derives in a body: a simple statement or a condition in it, behind some checks of its function, and the line on which it
+-- stands.
 use Rattle.std.specs.Prelude.{◌≡◌, ℕ, List, [], ◌∷◌, Option, Some, None}
 use Rattle.c_tree.specs.declared.expressions.Expr.{Expr}
 use Rattle.c_tree.specs.declared.statements.Body.{Body}
@@ -16,10 +17,13 @@ mutual
   pub data Unruled (ctx : Context) (home : Home) : Stmt → ℕ → Type 0 where
     simple : {s : Simple} {line : ℕ} (before : Numbered) → line ≡ s.line → act (statement_context ctx s.line before) home s.action [] ≡ None
         → Unruled ctx home (statement.Simple s) line
-    if_condition : {line : ℕ} {e : Expr} {a : Body} (o : Option Body) (before : Numbered) → controlling (statement_context ctx line before) e [] ≡ None
+    if_condition : {line : ℕ} {e : Expr} {a : Body} (o : Option Body) (before : Numbered)
+        → controlling (statement_context ctx line before) e [] ≡ None
         → Unruled ctx home (statement.If line e a o) line
-    if_holds : {n line : ℕ} {e : Expr} {a : Body} (o : Option Body) → UnruledBody ctx home a line → Unruled ctx home (statement.If n e a o) line
-    if_fails : {n line : ℕ} {e : Expr} {a : Body} (c : Body) → UnruledBody ctx home c line → Unruled ctx home (statement.If n e a (Some c)) line
+    if_holds : {n line : ℕ} {e : Expr} {a : Body} (o : Option Body) → UnruledBody ctx home a line
+        → Unruled ctx home (statement.If n e a o) line
+    if_fails : {n line : ℕ} {e : Expr} {a : Body} (c : Body) → UnruledBody ctx home c line
+        → Unruled ctx home (statement.If n e a (Some c)) line
     while_condition : {line : ℕ} {e : Expr} {a : Body} (before : Numbered) → controlling (statement_context ctx line before) e [] ≡ None
         → Unruled ctx home (statement.While line e a) line
     while_body : {n line : ℕ} {e : Expr} {a : Body} → UnruledBody ctx home a line → Unruled ctx home (statement.While n e a) line

@@ -1,5 +1,5 @@
--- How far what is derived weighs: n is a bound on the words of its expression. An address has a factor of at most 65,536 and a constant of at most 2^48 for
--- each word; a bound of a pointer has those of its address, and beside them those of an annotation.
+-- How far what is derived weighs: n is a bound on the words of its expression. An address has a factor of at most 65,536 and a constant of
+-- at most 2^48 for each word; a bound of a pointer has those of its address, and beside them those of an annotation.
 use Rattle.std.specs.Prelude.{ℕ, ◌+◌, ◌*◌, ◌≤◌, ◌≡◌, ◌^◌, List, [], ◌∷◌, Some, ℤ, unsigned_abs}
 use Rattle.checked_tree.specs.declared.sums.Part.{Part}
 use Rattle.checked_tree.specs.declared.sums.Part.TheVariants.{Constant, Atom}

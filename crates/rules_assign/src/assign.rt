@@ -1,22 +1,31 @@
 //! `l = e` for a local or parameter: the coercion of e to its type, with the present values of the names, and the coercion of each sibling whose type names it.
-ghost use Rattle.std.specs.Prelude.{true, false};
+ghost use Rattle.std.specs.Prelude.{◌≡◌, ◌++◌, None, true, false};
 ghost use Rattle.deputy_rules.specs.Assignment as spec;
 ghost use Rattle.deputy_rules.specs.Coercion as coercion;
 ghost use Rattle.deputy_rules.specs.Context.{slot_shape};
-ghost use Rattle.deputy_rules.specs.Deriving.{Derives, bind, lift};
-ghost use Rattle.deputy_rules.specs.Values.{integer_of as integer_in};
+ghost use Rattle.deputy_rules.specs.Changes as changes;
+ghost use Rattle.deputy_rules.specs.Deriving.{Derives, Yields, bind, lift, pure};
+ghost use Rattle.checked_tree.specs.declared.statements.CheckedStmt.TheVariants as statement;
+ghost use Rattle.deputy_rules.specs.Values.{address, integer_of as integer_in};
 ghost use Rattle.rules_assign.specs.AreFewSlots.{AreFewSlots};
 
 use crate::changes::slot_changes;
-use crate::coerce::coerce_to;
 use crate::convert::{converted_side, handed};
 use crate::store::store;
-use checked_tree::{Bounds, CheckedStmt, PointerOperand, Scalar, Shape};
+use checked_tree::{Bounds, CheckedExpr, CheckedStmt, PointerOperand, Scalar, Shape, Sum};
 use deputy_rules::{Asked, Derived, DerivingRefusal, Handed, Whole};
 use deputy_types::Element;
-use rules_values::{Context, integer_of, of_slots, sum_of};
-use sqlite_items::Items;
+use rules_coerce::coerce_to;
+use rules_values::{Context, Ids, integer_of, joined, of_slots, sum_of};
+use sqlite_items::{Boxed, Items};
 use std::alloc::Global;
+
+/// No rule for a value.
+fn no_rule(_value: Derived) -> Result<CheckedStmt, DerivingRefusal>
+    ensures { Yields None result }
+{
+    Err(DerivingRefusal::NoRule)
+}
 
 /// To an integer local.
 #[tactic(auto, unfolding(deputy_rules::specs::Deriving::bind, deputy_rules::specs::Assignment::assign_integer))]
@@ -88,6 +97,56 @@ fn assign_automatic(
     })
 }
 
+/// What is handed over, without its bounds: its form and its value.
+fn form_and_value(h: Handed) -> (Boxed<CheckedExpr>, Sum)
+    ensures { result ≡ (h.form, h.at) }
+{
+    (h.form, h.at)
+}
+
+/// The checks of the siblings of a slot that has a new value, behind these.
+#[tactic(auto, unfolding(deputy_rules::specs::Deriving::bind))]
+fn with_changes(
+    alloc: Global,
+    ctx: &Context<'_>,
+    slot: u32,
+    new: Sum,
+    ids: Ids,
+    asked: &mut Items<Asked>,
+) -> Result<Ids, DerivingRefusal>
+    requires { AreFewSlots ctx.now.table ctx.now.slots }
+    ensures { Derives (bind (changes.slot_changes ctx.now slot new) (λ more. pure (ids ++ more)) asked.old) result asked.new }
+{
+    let more = slot_changes(alloc, ctx, slot, new, asked)?;
+    Ok(joined(ids, more)?)
+}
+
+/// To a pointer local or parameter with an annotation, behind the checks of its own coercion.
+#[tactic(auto, unfolding(deputy_rules::specs::Deriving::bind))]
+fn assign_coerced(
+    alloc: Global,
+    ctx: &Context<'_>,
+    slot: u32,
+    h: Handed,
+    ids: Ids,
+    asked: &mut Items<Asked>,
+) -> Result<CheckedStmt, DerivingRefusal>
+    requires { AreFewSlots ctx.now.table ctx.now.slots }
+    ensures { Derives
+        (bind (changes.slot_changes ctx.now slot h.at) (λ more. pure (statement.Assign ctx.now.line slot address h.form (ids ++ more))) asked.old)
+        result asked.new }
+{
+    let (value, new) = form_and_value(h);
+    let checks = with_changes(alloc, ctx, slot, new, ids, asked)?;
+    Ok(CheckedStmt::Assign {
+        line: ctx.line,
+        slot,
+        scalar: Scalar::Pointer { size: 0 },
+        value,
+        checks,
+    })
+}
+
 /// To a pointer local or parameter with an annotation.
 #[tactic(auto, unfolding(deputy_rules::specs::Deriving::bind, deputy_rules::specs::Assignment::assign_annotated))]
 fn assign_annotated(
@@ -102,15 +161,9 @@ fn assign_annotated(
     requires { AreFewSlots ctx.now.table ctx.now.slots }
     ensures { Derives (spec.assign_annotated ctx.now slot key bounds.now h asked.old) result asked.new }
 {
-    let mut checks = coerce_to(alloc, ctx, &of_slots(), key, bounds, &h, asked)?;
-    checks.append(slot_changes(alloc, ctx, slot, h.at, asked)?)?;
-    Ok(CheckedStmt::Assign {
-        line: ctx.line,
-        slot,
-        scalar: Scalar::Pointer { size: 0 },
-        value: h.form,
-        checks,
-    })
+    let naming = of_slots();
+    let ids = coerce_to(alloc, ctx, &naming, key, bounds, &h, asked)?;
+    assign_coerced(alloc, ctx, slot, h, ids, asked)
 }
 
 /// To a pointer local that takes its bounds with it, what was derived.
@@ -189,10 +242,10 @@ fn assign_local(
         Shape::Int(scalar) => assign_number(alloc, ctx, slot, *scalar, value, asked),
         Shape::Pointer { elem, bounds } => match ctx.types.element_at(*elem) {
             Some(key) => assign_pointer(alloc, ctx, slot, key, bounds, value, asked),
-            None => Err(DerivingRefusal::NoRule),
+            None => no_rule(value),
         },
-        Shape::Struct(_) => Err(DerivingRefusal::NoRule),
-        Shape::Address => Err(DerivingRefusal::NoRule),
+        Shape::Struct(_) => no_rule(value),
+        Shape::Address => no_rule(value),
     }
 }
 
@@ -210,7 +263,7 @@ fn assign_slot(
 {
     match ctx.slot_shape(slot) {
         Some(shape) => assign_local(alloc, ctx, slot, value, shape, asked),
-        None => Err(DerivingRefusal::NoRule),
+        None => no_rule(value),
     }
 }
 
@@ -229,8 +282,8 @@ pub fn assign_to(
     match target {
         Derived::Local(slot) => assign_slot(alloc, ctx, slot, value, asked),
         Derived::Place(place) => store(alloc, ctx, place, value, asked),
-        Derived::Value(_) => Err(DerivingRefusal::NoRule),
-        Derived::Array(_) => Err(DerivingRefusal::NoRule),
-        Derived::Union(_) => Err(DerivingRefusal::NoRule),
+        Derived::Value(_) => no_rule(value),
+        Derived::Array(_) => no_rule(value),
+        Derived::Union(_) => no_rule(value),
     }
 }

@@ -3,13 +3,14 @@
 ghost use Rattle.std.specs.Prelude.{◌≡◌, ◌<◌, ◌^◌, length, if◌then◌else◌, map, IfOk, [], ◌∷◌};
 ghost use Rattle.deputy_rules.specs.Changes as spec;
 ghost use Rattle.deputy_rules.specs.Deriving.{Derives, bind, lift};
+ghost use Rattle.deputy_rules.specs.Values as values;
 ghost use Rattle.deputy_types.specs.Table as table;
 ghost use Rattle.rules_assign.specs.AreFewSlots.{AreFewSlots};
 
-use crate::coerce::{Fit, coerce};
 use checked_tree::{Bounds, CheckedExpr, Member, Part, Scalar, Shape, Sum, UnionShape, copied_sum};
 use deputy_rules::{Asked, AskedCond, Change, DerivingRefusal, Names, Naming, Place};
 use deputy_types::{Element, TypeTable, bounds_name};
+use rules_coerce::{Fit, coerce, members_of};
 use rules_values::{
     Context, Ids, ask, atom_part, beyond, boxed_copy, container, high_sum, load_form, low_sum,
     name_sum, one, with_part,
@@ -49,6 +50,51 @@ fn changed(names: Names, name: u32, value: Sum) -> Naming
     }
 }
 
+/// The bounds that an annotation gives a pointer with this value. The only refusal is want of memory.
+fn bounds_at(
+    alloc: Global,
+    ctx: &Context<'_>,
+    naming: &Naming,
+    bounds: &Bounds,
+    at: &Sum,
+) -> Result<(Sum, Sum), AllocError>
+    ensures { IfOk result (λ found. found ≡ (values.low_sum ctx.now naming.now at.now bounds.now, values.high_sum ctx.now naming.now at.now bounds.now)) }
+{
+    let low = low_sum(alloc, ctx, naming, copied_sum(alloc, at)?, bounds)?;
+    let high = high_sum(alloc, ctx, naming, copied_sum(alloc, at)?, bounds)?;
+    Ok((low, high))
+}
+
+/// A pointer with this value and its present bounds, and the bounds of its own type with the new value. The only refusal is want of memory.
+fn change_fit(
+    alloc: Global,
+    ctx: &Context<'_>,
+    update: &Update,
+    bounds: &Bounds,
+    key: Element,
+    at: Sum,
+) -> Result<Fit, AllocError>
+    ensures { IfOk result (λ fit. fit ≡ record {
+      at = at;
+      low = values.low_sum ctx.now update.now.before at bounds.now;
+      high = values.high_sum ctx.now update.now.before at bounds.now;
+      lower = values.low_sum ctx.now update.now.after at bounds.now;
+      higher = values.high_sum ctx.now update.now.after at bounds.now;
+      size = values.size_of ctx.now key;
+    }) }
+{
+    let (low, high) = bounds_at(alloc, ctx, &update.before, bounds, &at)?;
+    let (lower, higher) = bounds_at(alloc, ctx, &update.after, bounds, &at)?;
+    Ok(Fit {
+        at,
+        low,
+        high,
+        lower,
+        higher,
+        size: ctx.size_of(key),
+    })
+}
+
 /// Asks for the coercion of a pointer with this value and its present bounds to its own type with the new value.
 fn change_at(
     alloc: Global,
@@ -61,18 +107,7 @@ fn change_at(
 ) -> Result<Ids, DerivingRefusal>
     ensures { Derives (spec.change_at ctx.now update.now.before update.now.after bounds.now key at asked.old) result asked.new }
 {
-    let low = low_sum(alloc, ctx, &update.before, copied_sum(alloc, &at)?, bounds)?;
-    let high = high_sum(alloc, ctx, &update.before, copied_sum(alloc, &at)?, bounds)?;
-    let lower = low_sum(alloc, ctx, &update.after, copied_sum(alloc, &at)?, bounds)?;
-    let higher = high_sum(alloc, ctx, &update.after, copied_sum(alloc, &at)?, bounds)?;
-    let fit = Fit {
-        at,
-        low,
-        high,
-        lower,
-        higher,
-        size: ctx.size_of(key),
-    };
+    let fit = change_fit(alloc, ctx, update, bounds, key, at)?;
     let kind = CheckKind::Change;
     coerce(alloc, ctx, kind, kind, &fit, asked)
 }
@@ -214,16 +249,6 @@ pub(crate) fn slot_changes(
         name: slot,
     };
     each_slot(alloc, ctx, &update, ctx.slots.as_slice(), asked)
-}
-
-/// The members of a struct; none where there is no such struct.
-fn members_of(types: &TypeTable, structure: u32) -> &[Member]
-    ensures { result.now ≡ table.members_of types.now structure }
-{
-    match at(types.structs(), structure as usize) {
-        Some(found) => found.members.as_slice(),
-        None => &[],
-    }
 }
 
 /// Names that are read in the struct place in which this place lies. The only refusal is want of memory.

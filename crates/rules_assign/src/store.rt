@@ -9,12 +9,11 @@ ghost use Rattle.deputy_rules.specs.Values.{address, integer_of as integer_in, i
 ghost use Rattle.rules_assign.specs.AreFewSlots.{AreFewSlots};
 
 use crate::changes::{member_changes, present, struct_names};
-use crate::coerce::{coerce_counted, coerce_to};
 use crate::convert::{converted_side, handed};
-use crate::tags::tag_change;
 use checked_tree::{Bounds, CheckedExpr, CheckedStmt, Scalar, Shape};
 use deputy_rules::{Asked, AskedCond, Derived, DerivingRefusal, Handed, Place, Source, Whole};
 use deputy_types::Element;
+use rules_coerce::{ask_terminator, coerce_counted, coerce_to, tag_change};
 use rules_values::{Context, Ids, ask, integer_of, is_nullterm, one, sum_of};
 use sd_base::CheckKind;
 use sqlite_items::{Boxed, Items};
@@ -153,11 +152,7 @@ fn store_byte(
     ensures { Derives (spec.store_byte ctx.now place w asked.old) result asked.new }
 {
     let new = converted_side(alloc, Scalar::U8, &w)?;
-    let term = AskedCond::Term {
-        at: place.at,
-        new: Some(new),
-    };
-    let id = ask(ctx, CheckKind::Term, term, asked)?;
+    let id = ask_terminator(ctx, place.at, new, asked)?;
     Ok(store_form(ctx, Scalar::U8, place.form, w.form, one(alloc, id)?))
 }
 

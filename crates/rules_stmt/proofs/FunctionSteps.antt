@@ -9,7 +9,7 @@ use Rattle.checked_tree.specs.declared.units.CheckedFn.{CheckedFn}
 use Rattle.deputy_rules.specs.Checking.{Fault, NoRule, Limit}
 use Rattle.deputy_rules.specs.Functions.{check_function, check_result, context_of}
 use Rattle.deputy_rules.specs.Heads.{SeenText, function_stands, is_over, result_of, slot_shapes}
-use Rattle.rules_stmt.proofs.SlotCounts.{slots_counted}
+use Rattle.deputy_rules.proofs.SlotCounts.{slots_counted}
 
 chosen : {X : Type 0} (stands over : Bool) (a b c : X) → stands ≡ true → (if not stands then a else if over then b else c) ≡ (if over then b else c)
 chosen true over a b c h = refl

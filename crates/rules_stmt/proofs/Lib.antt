@@ -3,5 +3,4 @@ pub mod ItemSteps
 pub mod LaidOut
 pub mod Leftovers
 pub mod ShortItems
-pub mod SlotCounts
 pub mod StatementEquations

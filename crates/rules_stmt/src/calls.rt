@@ -8,7 +8,7 @@ use crate::arguments::{coerce_each, of_arguments, pass_each, passed_arguments};
 use c_tree::Expr;
 use checked_tree::{CheckedStmt, Target};
 use deputy_rules::{Asked, DerivingRefusal, Passed, Signature};
-use rules_assign::call_target;
+use rules_coerce::call_target;
 use rules_heads::Functions;
 use rules_values::Context;
 use sd_base::Name;

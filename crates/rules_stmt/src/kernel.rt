@@ -21,7 +21,8 @@ use deputy_rules::{
     Asked, Derived, DerivingRefusal, Handed, KernelArguments, Pointed, Returned, Value,
 };
 use deputy_types::Element;
-use rules_assign::{call_target, handed, handed_over, kalloc_target, null, null_number};
+use rules_assign::{handed, handed_over, null, null_number};
+use rules_coerce::{call_target, kalloc_target};
 use rules_expr::derive;
 use rules_heads::Functions;
 use rules_types::promoted;

@@ -1,21 +1,22 @@
 //! Coercions: the checks that the bounds of a pointer need where a type takes it.
+ghost use Rattle.std.specs.Prelude.{[], ◌∷◌, ◌++◌};
 ghost use Rattle.deputy_rules.specs.Coercion as spec;
 ghost use Rattle.deputy_rules.specs.Deriving as asking;
-ghost use Rattle.deputy_rules.specs.Deriving.{Derives};
+ghost use Rattle.deputy_rules.specs.Deriving.{Derives, bind, pure};
 ghost use Rattle.deputy_rules.specs.declared.asked.AskedCond.TheVariants as cond;
 ghost use Rattle.deputy_rules.specs.Values as values;
 
 use checked_tree::{Bounds, Part, Sum, copied_sum};
 use deputy_rules::{Asked, AskedCond, DerivingRefusal, Handed, Naming};
 use deputy_types::Element;
-use rules_values::{Context, Ids, ask, high_sum, low_sum, one, with_part};
+use rules_values::{Context, Ids, ask, high_sum, joined, low_sum, one, with_id, with_part};
 use sd_base::CheckKind;
 use sqlite_items::Items;
 use std::alloc::Global;
 
 /// A pointer and its bounds, and the bounds of the type that takes it.
 #[derive(Drop)]
-pub(crate) struct Fit {
+pub struct Fit {
     /// Its value.
     pub at: Sum,
     /// Its bounds.
@@ -91,9 +92,27 @@ fn ask_aligned(
     }
 }
 
+/// The same, behind the numbers of the checks before it.
+#[tactic(auto, unfolding(deputy_rules::specs::Deriving::bind))]
+fn ask_next(
+    alloc: Global,
+    ctx: &Context<'_>,
+    kind: CheckKind,
+    left: &Sum,
+    right: &Sum,
+    guard: &Sum,
+    ids: Ids,
+    asked: &mut Items<Asked>,
+) -> Result<Ids, DerivingRefusal>
+    ensures { Derives (bind (asking.ask ctx.now kind (cond.Guarded left.now right.now guard.now)) (λ id. pure (ids ++ id ∷ [])) asked.old) result asked.new }
+{
+    let id = ask_guarded(alloc, ctx, kind, left, right, guard, asked)?;
+    Ok(with_id(ids, id)?)
+}
+
 /// Asks for the five checks of a coercion, each of which passes where the pointer is null. The first four have the one kind, the fifth the other.
 #[tactic(auto, unfolding(deputy_rules::specs::Deriving::bind, deputy_rules::specs::Coercion::coerce))]
-pub(crate) fn coerce(
+pub fn coerce(
     alloc: Global,
     ctx: &Context<'_>,
     kind: CheckKind,
@@ -103,13 +122,22 @@ pub(crate) fn coerce(
 ) -> Result<Ids, DerivingRefusal>
     ensures { Derives (spec.coerce ctx.now kind align fit.now.at fit.now.low fit.now.high fit.now.lower fit.now.higher fit.now.size asked.old) result asked.new }
 {
-    let mut ids = Items::new(alloc);
-    ids.push(ask_guarded(alloc, ctx, kind, &fit.low, &fit.lower, &fit.at, asked)?)?;
-    ids.push(ask_guarded(alloc, ctx, kind, &fit.lower, &fit.at, &fit.at, asked)?)?;
-    ids.push(ask_guarded(alloc, ctx, kind, &fit.at, &fit.higher, &fit.at, asked)?)?;
-    ids.push(ask_guarded(alloc, ctx, kind, &fit.higher, &fit.high, &fit.at, asked)?)?;
-    ids.append(ask_aligned(alloc, ctx, align, &fit.at, &fit.lower, fit.size, asked)?)?;
-    Ok(ids)
+    let ids = Items::new(alloc);
+    let ids = ask_next(alloc, ctx, kind, &fit.low, &fit.lower, &fit.at, ids, asked)?;
+    let ids = ask_next(alloc, ctx, kind, &fit.lower, &fit.at, &fit.at, ids, asked)?;
+    let ids = ask_next(alloc, ctx, kind, &fit.at, &fit.higher, &fit.at, ids, asked)?;
+    let ids = ask_next(
+        alloc,
+        ctx,
+        kind,
+        &fit.higher,
+        &fit.high,
+        &fit.at,
+        ids,
+        asked,
+    )?;
+    let more = ask_aligned(alloc, ctx, align, &fit.at, &fit.lower, fit.size, asked)?;
+    Ok(joined(ids, more)?)
 }
 
 /// Asks for the coercion of what is handed over to a pointer type with these bounds. The null constant needs no check.
@@ -183,7 +211,7 @@ pub fn coerce_to(
 
 /// Asks for the coercion to a pointer type with a constant annotation that lets it reach so many elements.
 #[tactic(auto, unfolding(deputy_rules::specs::Coercion::coerce_counted))]
-pub(crate) fn coerce_counted(
+pub fn coerce_counted(
     alloc: Global,
     ctx: &Context<'_>,
     key: Element,

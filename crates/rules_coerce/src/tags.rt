@@ -99,7 +99,7 @@ fn optional_kept(
 
 /// Asks for the check that an assignment to a member needs where the member is the tag of a union: the tag keeps its value, or all bytes of the union are 0.
 #[tactic(auto, unfolding(deputy_rules::specs::Changes::tag_change))]
-pub(crate) fn tag_change(
+pub fn tag_change(
     alloc: Global,
     ctx: &Context<'_>,
     place: &Place,

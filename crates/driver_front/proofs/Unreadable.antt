@@ -11,11 +11,11 @@ use Rattle.c_token.specs.declared.refusal.WordRefusal.TheVariants as words
 use Rattle.c_token.specs.Answers.{IsRefusal}
 use Rattle.c_decl.specs.declared.refusal.UnitRefusal.{UnitRefusal}
 use Rattle.c_decl.specs.declared.refusal.UnitRefusal.TheVariants as items
-use Rattle.checked_tree.specs.declared.units.CheckedUnit.{CheckedUnit}
 use Rattle.driver_front.specs.declared.refusal.DriverRefusal.{DriverRefusal}
 use Rattle.driver_front.specs.declared.refusal.DriverRefusal.TheVariants as refusal
 use Rattle.driver_front.specs.Parts.{word_refusal, unit_refusal}
-use Rattle.driver_front.specs.Verdict.{IsUnread, no_word, past_limit, no_item, Verdict, unread, read, verdict_of}
+use Rattle.driver_front.specs.Verdict.{IsUnread, no_word, past_limit, no_item, Verdict, unread, read, unit_in, verdict_of}
+use Rattle.safe_code.specs.Drivers.{Driver}
 
 -- a refusal of the words
 pub unread-words : (t : Text) (r : WordRefusal) → IsRefusal t r → word_refusal r ≢ refusal.Memory → IsUnread t (word_refusal r)
@@ -30,13 +30,14 @@ unread-items t ws r divided (inl h) some = subst (λ (x : UnitRefusal). IsUnread
 unread-items t ws r divided (inr h) some = absurd (some (ap unit_refusal h))
 
 -- the verdict of a text that is read is that of its unit
-pub read-verdict : (t : Text) (u : TextUnit) (r : Result CheckedUnit DriverRefusal) → Reads t u → (r ≢ Err refusal.Memory → r ≡ verdict_of u) → r ≢ Err refusal.Memory → Verdict t r
-read-verdict t u r reads h some = subst (λ (x : Result CheckedUnit DriverRefusal). Verdict t x) (sym (h some)) (read reads)
+pub read-verdict : (t : Text) (u : TextUnit) (r : Result Driver DriverRefusal) → Reads t u → (r ≢ Err refusal.Memory → unit_in r ≡ verdict_of u)
+    → r ≢ Err refusal.Memory → Verdict t (unit_in r)
+read-verdict t u r reads h some = subst (λ (x : Result _ DriverRefusal). Verdict t x) (sym (h some)) (read reads)
 
 -- a refusal as the outcome of a text
-abbrev refused : DriverRefusal → Result CheckedUnit DriverRefusal
+abbrev refused : DriverRefusal → Result Driver DriverRefusal
 refused r = Err r
 
 -- the verdict of a text that is not read is its refusal
-pub unread-verdict : (t : Text) (r : DriverRefusal) → (r ≢ refusal.Memory → IsUnread t r) → refused r ≢ refused refusal.Memory → Verdict t (refused r)
+pub unread-verdict : (t : Text) (r : DriverRefusal) → (r ≢ refusal.Memory → IsUnread t r) → refused r ≢ refused refusal.Memory → Verdict t (unit_in (refused r))
 unread-verdict t r h some = unread (h (λ same. some (ap refused same)))

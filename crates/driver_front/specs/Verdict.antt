@@ -15,6 +15,12 @@ use Rattle.deputy_types.specs.UnitLayout.{layout}
 use Rattle.driver_front.specs.declared.refusal.DriverRefusal.{DriverRefusal}
 use Rattle.driver_front.specs.declared.refusal.DriverRefusal.TheVariants as refusal
 use Rattle.driver_front.specs.Parts.{type_refusal}
+use Rattle.safe_code.specs.Drivers.{Driver}
+
+-- an outcome with the unit of its driver in the driver's place
+abbrev pub unit_in : Result Driver DriverRefusal → Result CheckedUnit DriverRefusal
+unit_in (Ok driver) = Ok driver.unit
+unit_in (Err r) = Err r
 
 -- A text is not read: its division comes to a byte on this line at which no word begins, or to a word that passes a limit; or its words, behind some
 -- items, go on with no item.

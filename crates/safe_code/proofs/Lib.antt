@@ -3,6 +3,5 @@ pub mod SimpleForms
 pub mod BracketsKept
 pub mod SourceDepth
 pub mod CheckedDepth
-pub mod SlotCounts
 pub mod RunnableUnits
 pub mod FewFunctions

@@ -31,7 +31,7 @@ use Rattle.deputy_types.specs.UnitLayout.{functions_of}
 use Rattle.safe_code.specs.Runnable.{IsRunnable}
 use Rattle.safe_code.proofs.SourceDepth.{source_depth}
 use Rattle.safe_code.proofs.CheckedDepth.{statements_within}
-use Rattle.safe_code.proofs.SlotCounts.{slots_counted}
+use Rattle.deputy_rules.proofs.SlotCounts.{slots_counted}
 
 -- ---- a function that is derived
 pub ok_is : {A : Type 0} (x y : A) → ◌≡◌ {A = Result A Fault} (Ok x) (Ok y) → x ≡ y

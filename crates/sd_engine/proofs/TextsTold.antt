@@ -4,13 +4,13 @@ use Rattle.std.specs.Prelude.{◌≢◌}
 use Rattle.c_tree.specs.declared.items.Unit.{Unit as TextUnit}
 use Rattle.c_tree.specs.Bytes.{Text}
 use Rattle.c_tree.specs.Units.{Reads}
-use Rattle.checked_tree.specs.declared.units.CheckedUnit.{CheckedUnit}
 use Rattle.driver_front.specs.declared.causes.Cause.{Cause}
 use Rattle.driver_front.specs.declared.reason.Reason.{Reason}
 use Rattle.driver_front.specs.declared.refusal.DriverRefusal.{DriverRefusal}
 use Rattle.driver_front.specs.declared.refusal.DriverRefusal.TheVariants as refusal
 use Rattle.driver_front.specs.Reasons.{IsAccepted, IsRefusedAt, IsUnreadAt, reason_of}
 use Rattle.driver_front.specs.Verdict as front
+use Rattle.safe_code.specs.Drivers.{Driver}
 use Rattle.sd_engine.specs.declared.thin_program.ThinText.{ThinText}
 use Rattle.sd_engine.specs.declared.thin_program.ThinText.TheVariants as thin
 use Rattle.sd_engine.specs.ThinTexts.{IsThinText, IsThinUnit, IsNotRun, not_yet}
@@ -32,7 +32,7 @@ not-memory r w told same =
     cc none
 
 -- a refusal as the outcome of a text
-abbrev refused : DriverRefusal → Result CheckedUnit DriverRefusal
+abbrev refused : DriverRefusal → Result Driver DriverRefusal
 refused r = Err r
 
 not-memory-either : (r : DriverRefusal) (w : Reason) → Some w ≡ reason_of r → refused r ≢ refused refusal.Memory
@@ -43,8 +43,9 @@ pub unread-told : (t : Text) (r : DriverRefusal) (w : Reason) → Some w ≡ rea
 unread-told t r w told h = record { refusal = r; unread = h (not-memory r w told); told = sym told }
 
 -- a text that is refused, and one that is accepted
-pub refused-told : (t : Text) (r : DriverRefusal) (w : Reason) → Some w ≡ reason_of r → (refused r ≢ refused refusal.Memory → front.Verdict t (refused r)) → IsRefusedAt t w.line w.cause
+pub refused-told : (t : Text) (r : DriverRefusal) (w : Reason) → Some w ≡ reason_of r → (refused r ≢ refused refusal.Memory → front.Verdict t (front.unit_in (refused r)))
+    → IsRefusedAt t w.line w.cause
 refused-told t r w told h = record { refusal = r; verdict = h (not-memory-either r w told); told = sym told }
 
-pub accepted-told : (t : Text) (unit : CheckedUnit) → (Ok unit ≢ Err refusal.Memory → front.Verdict t (Ok unit)) → IsAccepted t
-accepted-told t unit h = (unit, h (λ same. cc same))
+pub accepted-told : (t : Text) (driver : Driver) → (Ok driver ≢ Err refusal.Memory → front.Verdict t (front.unit_in (Ok driver))) → IsAccepted t
+accepted-told t driver h = (driver.unit, h (λ same. cc same))

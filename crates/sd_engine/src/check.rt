@@ -78,8 +78,8 @@ fn refusal_of(alloc: Global, text: &[u8], driver: u8) -> Result<Option<RefusedTe
         (IsAccepted text.now)
         (λ refused. (refused.driver ≡ driver) × IsRefusedAt text.now refused.line refused.cause)) }
 {
-    match accept(alloc, text) {
-        Ok(_unit) => Ok(None),
+    match accept(alloc, driver, text) {
+        Ok(_driver) => Ok(None),
         Err(refusal) => match refusal.reason() {
             Some(reason) => Ok(Some(RefusedText {
                 driver,

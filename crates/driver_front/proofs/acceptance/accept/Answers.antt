@@ -2,8 +2,8 @@
 use Rattle.driver_front.proofs.Unreadable.{read-verdict, unread-verdict}
 use Rattle.driver_front.proofs.acceptance.accept.Goals as goal
 
-pub returns-in-Ok : goal.returns-in-Ok
-returns-in-Ok c = read-verdict _ _ _ c.in-Ok.ensures.unit c.accept_unit.ensures
+pub returns-in-Ok-clause-verdict : goal.returns-in-Ok-clause-verdict
+returns-in-Ok-clause-verdict c = read-verdict _ _ _ c.in-Ok.ensures.unit c.accept_unit.ensures.verdict
 
-pub returns-in-Err : goal.returns-in-Err
-returns-in-Err c = unread-verdict _ _ c.in-Err.ensures.unread
+pub returns-in-Err-clause-verdict : goal.returns-in-Err-clause-verdict
+returns-in-Err-clause-verdict c = unread-verdict _ _ c.in-Err.ensures.unread

@@ -1,7 +1,8 @@
 pub mod Tracking
 pub mod Rules
 pub mod Told
-pub mod Ints
+pub mod IntsFit
 pub mod Held
 pub mod Called
 pub mod Examples
+pub mod CallsInStep

@@ -4,3 +4,4 @@ pub mod Contexts
 pub mod Rows
 pub mod Replies
 pub mod Serving
+pub mod InStep

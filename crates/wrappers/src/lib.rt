@@ -9,6 +9,7 @@ mod blocks;
 mod call_out;
 mod claims;
 mod contexts;
+mod laws;
 mod locks;
 mod masks;
 mod ports;
@@ -20,4 +21,5 @@ mod timers;
 
 pub use call_out::{CallOut, Saying, TextBytes};
 pub use contexts::{Contexts, contexts_of, may_call};
+pub use laws::calls_are_in_step;
 pub use serve::serve_call;

@@ -53,6 +53,7 @@ line_of (item.Answered who v) = activity who ++ codes " done " ++ signed_decimal
 line_of (item.Done who) = activity who ++ codes " done\n"
 line_of (item.Blocked who lock) = activity who ++ codes " blocked " ++ signed_decimal lock ++ codes "\n"
 line_of (item.Failed who kind line) = activity who ++ codes " failed " ++ failure_word kind ++ codes " " ++ decimal line ++ codes "\n"
+line_of (item.Wild who line) = activity who ++ codes " wild " ++ decimal line ++ codes "\n"
 -- undoing and tables
 line_of (item.Undone k what) = driver k ++ codes " undo " ++ undone_words what ++ codes "\n"
 line_of item.Tables = codes "tables\n"

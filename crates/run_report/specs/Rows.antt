@@ -22,14 +22,18 @@ call_words name arg = name ++ codes " " ++ signed_decimal arg
 
 -- A row; the name is that of the function that the row names by its number.
 abbrev pub row_line : Row → List ℕ → List ℕ
-row_line (row.Block o base size state) name = codes "block " ++ owner o ++ codes " " ++ decimal base ++ codes " " ++ decimal size ++ codes " " ++ state_word state ++ codes "\n"
+row_line (row.Block o base size state) name =
+    codes "block " ++ owner o ++ codes " " ++ decimal base ++ codes " " ++ decimal size ++ codes " " ++ state_word state ++ codes "\n"
 row_line (row.Line line o handler) name = codes "line " ++ signed_decimal line ++ codes " " ++ holder_words o name ++ codes "\n"
-row_line (row.Ports base n o) name = codes "ports " ++ signed_decimal base ++ codes " " ++ signed_decimal n ++ codes " " ++ owner o ++ codes "\n"
+row_line (row.Ports base n o) name =
+    codes "ports " ++ signed_decimal base ++ codes " " ++ signed_decimal n ++ codes " " ++ owner o ++ codes "\n"
 row_line (row.Device id o) name = codes "device " ++ signed_decimal id ++ codes " " ++ owner o ++ codes "\n"
-row_line (row.Param key value o) name = codes "param " ++ signed_decimal key ++ codes " " ++ signed_decimal value ++ codes " " ++ owner o ++ codes "\n"
+row_line (row.Param key value o) name =
+    codes "param " ++ signed_decimal key ++ codes " " ++ signed_decimal value ++ codes " " ++ owner o ++ codes "\n"
 row_line (row.Timer o id due handler arg) name =
     codes "timer " ++ owner o ++ codes " " ++ due_words id due ++ codes " " ++ call_words name arg ++ codes "\n"
-row_line (row.Lock lock who) name = codes "lock " ++ signed_decimal lock ++ codes " " ++ owner who.owner ++ codes " " ++ decimal who.task ++ codes "\n"
+row_line (row.Lock lock who) name =
+    codes "lock " ++ signed_decimal lock ++ codes " " ++ owner who.owner ++ codes " " ++ decimal who.task ++ codes "\n"
 row_line (row.Mask who) name = codes "mask " ++ owner who.owner ++ codes " " ++ decimal who.task ++ codes "\n"
 row_line (row.Hold domain n) name = codes "hold " ++ signed_decimal domain ++ codes " " ++ decimal n ++ codes "\n"
 row_line (row.Work o handler arg) name = codes "work " ++ owner o ++ codes " " ++ call_words name arg ++ codes "\n"

@@ -111,6 +111,11 @@ pub enum Item {
         kind: FailKind,
         line: u32,
     },
+    /// `dK tT wild LINE`: a step has no meaning, whose statement stands on this line, and the run ends.
+    Wild {
+        who: Who,
+        line: u32,
+    },
     /// `dK undo ITEM`: what the driver held is taken back.
     Undone {
         driver: u8,

@@ -186,6 +186,17 @@ fn put_failed(page: &mut Page, who: Who, kind: FailKind, line: u32)
     page.put_text(b"\n");
 }
 
+/// `dK tT wild LINE`.
+fn put_wild(page: &mut Page, who: Who, line: u32)
+    requires { length page.old ≤ 3584 }
+    ensures { page.new ≡ page.old ++ line_of (Item.Wild who line) }
+{
+    put_activity(page, who);
+    page.put_text(b" wild ");
+    page.put_count(u64::from(line));
+    page.put_text(b"\n");
+}
+
 /// Whether a check is tested.
 fn kept_word(is_kept: bool) -> &'static [u8]
     ensures word { result.now ≡ word_of_kept is_kept }
@@ -309,6 +320,7 @@ pub fn put_line(page: &mut Page, item: &Item)
         Item::Work { driver } => put_work(page, *driver),
         Item::Reply { value } => put_signed(page, b"kernel ", i64::from(*value)),
         Item::Failed { who, kind, line } => put_failed(page, *who, *kind, *line),
+        Item::Wild { who, line } => put_wild(page, *who, *line),
         Item::Undone { driver, item } => put_undone(page, *driver, item),
         Item::Tables => page.put_text(b"tables\n"),
         Item::Row { row, handler } => put_row(page, row, handler),

@@ -6,3 +6,7 @@
 
 #[cfg(test)]
 mod calls;
+#[cfg(test)]
+mod history;
+#[cfg(test)]
+mod table;

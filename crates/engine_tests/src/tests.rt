@@ -93,90 +93,101 @@ fn two_texts(
     Ok(texts)
 }
 
-/// The parts of a text between these characters; of an empty text none.
-fn parts(alloc: Global, text: &str, between: char) -> Result<Vec<String>, AllocError> {
-    let mut list = Vec::new(alloc);
+/// The words of a command; of an empty text none.
+fn words_of(alloc: Global, text: &str) -> Result<Vec<String>, AllocError> {
+    let mut words = Vec::new(alloc);
     if text.is_empty() {
-        return Ok(list);
+        return Ok(words);
     }
-    for part in text.split(between) {
-        list.push(String::from_str(alloc, part)?)?;
+    for word in text.split(' ') {
+        words.push(String::from_str(alloc, word)?)?;
     }
-    Ok(list)
+    Ok(words)
 }
 
-/// A text whose lines stand between `~`.
-fn in_lines(alloc: Global, text: &str) -> Result<String, AllocError> {
-    let mut lines = String::new(alloc);
-    for byte in text.chars() {
-        lines.push(if byte == '~' { '\n' } else { byte })?;
+/// Adds a text whose lines stand between `~`, and `DRIVER` in place of `@`. Where memory is wanting some is left out, and the row comes out otherwise.
+fn put_lines(out: &mut String, text: &str) {
+    if text == "@" {
+        let _ = out.push_str(DRIVER);
+        return;
     }
-    Ok(lines)
+    for letter in text.chars() {
+        let _ = out.push(if letter == '~' { '\n' } else { letter });
+    }
 }
 
 /// A field of a row.
-fn field(fields: &[String], number: usize) -> &str {
-    match fields.get(number) {
-        Some(field) => field.as_str(),
-        None => "",
-    }
+fn field(row: &str, number: usize) -> &str {
+    row.split('|').nth(number).unwrap_or("")
+}
+
+/// The same with its lines.
+fn lines_of(alloc: Global, row: &str, number: usize) -> String {
+    let mut out = String::new(alloc);
+    put_lines(&mut out, field(row, number));
+    out
 }
 
 /// Whether these words over these texts, with one read that fails, give this status and write this.
 fn gives(
     alloc: Global,
-    words: &str,
-    texts: Vec<(String, Vec<u8>)>,
-    failing: &str,
+    words: &[String],
+    mut shelf: MemShelf,
     status: &str,
     output: &str,
-) -> Result<bool, AllocError>
-    requires { IsTrue (names_differ (map text_of texts.items)) }
-{
-    let words = parts(alloc, words, ' ')?;
-    let fail = Vec::from_slice(alloc, &[failing.parse::<u64>().unwrap_or(0)])?;
-    let mut shelf = MemShelf::new(texts, fail, 4_096);
+) -> Result<bool, AllocError> {
     let mut sink = MemSink::new(alloc, 1_000, Vec::new(alloc), 1_000)?;
-    let answer = serve(alloc, words.as_slice(), &mut shelf, &mut sink);
+    let answer = serve(alloc, words, &mut shelf, &mut sink);
     Ok(answer.name() == status && sink.bytes() == output.as_bytes())
+}
+
+/// The texts of a row on a shelf.
+fn shelf_of(alloc: Global, row: &str) -> Result<MemShelf, AllocError> {
+    let scenario = lines_of(alloc, row, 1);
+    let driver = lines_of(alloc, row, 2);
+    let failing = field(row, 3).parse::<u64>().unwrap_or(0);
+    shelf_with(alloc, scenario.as_str(), driver.as_str(), failing)
+}
+
+/// A scenario and a driver on a shelf, of which the read with this number fails.
+fn shelf_with(
+    alloc: Global,
+    scenario: &str,
+    driver: &str,
+    failing: u64,
+) -> Result<MemShelf, AllocError> {
+    let texts = two_texts(alloc, scenario, driver)?;
+    let fail = Vec::from_slice(alloc, &[failing])?;
+    Ok(MemShelf::new(texts, fail, 4_096))
 }
 
 /// Whether a row comes out as it says.
 fn comes_out(alloc: Global, row: &str) -> Result<bool, AllocError> {
-    let fields = parts(alloc, row, '|')?;
-    let fields = fields.as_slice();
-    let scenario = in_lines(alloc, field(fields, 1))?;
-    let driver = match field(fields, 2) {
-        "@" => String::from_str(alloc, DRIVER)?,
-        text => in_lines(alloc, text)?,
-    };
-    let output = in_lines(alloc, field(fields, 5))?;
-    let texts = two_texts(alloc, scenario.as_str(), driver.as_str())?;
+    let shelf = shelf_of(alloc, row)?;
+    let words = words_of(alloc, field(row, 0))?;
+    let output = lines_of(alloc, row, 5);
     gives(
         alloc,
-        field(fields, 0),
-        texts,
-        field(fields, 3),
-        field(fields, 4),
+        words.as_slice(),
+        shelf,
+        field(row, 4),
         output.as_str(),
     )
 }
 
-/// The rows of a table that came out otherwise.
-fn wrong_rows(alloc: Global, table: &str) -> Result<String, AllocError> {
-    let mut wrong = String::new(alloc);
+/// The first row of a table that comes out otherwise; an empty text where each comes out as it says.
+fn first_wrong<'t>(alloc: Global, table: &'t str) -> Result<&'t str, AllocError> {
     for row in table.lines() {
         if !row.starts_with("//") && !comes_out(alloc, row)? {
-            wrong.push_str(row)?;
-            wrong.push_str("\n")?;
+            return Ok(row);
         }
     }
-    Ok(wrong)
+    Ok("")
 }
 
 #[test]
 fn calls_answer_and_write_as_they_should(rt: HostRuntime) -> Result<(), Fail> {
-    assert_eq!(rt; wrong_rows(rt.alloc(), CALLS)?.as_str(), "");
+    assert_eq!(rt; first_wrong(rt.alloc(), CALLS)?, "");
     Ok(())
 }
 
@@ -193,8 +204,9 @@ fn empty_statements(alloc: Global, count: usize) -> Result<String, AllocError> {
 /// Whether a run of so many empty statements writes this. The task is finished twice.
 fn steps_give(alloc: Global, count: usize, output: &str) -> Result<bool, AllocError> {
     let driver = empty_statements(alloc, count)?;
-    let texts = two_texts(alloc, "load d1 1\nfinish 1\nfinish 1\n", driver.as_str())?;
-    gives(alloc, "run s d", texts, "0", "Done", output)
+    let shelf = shelf_with(alloc, "load d1 1\nfinish 1\nfinish 1\n", driver.as_str(), 0)?;
+    let words = words_of(alloc, "run s d")?;
+    gives(alloc, words.as_slice(), shelf, "Done", output)
 }
 
 #[test]
@@ -210,13 +222,18 @@ fn a_run_ends_at_the_most_steps(rt: HostRuntime) -> Result<(), Fail> {
     Ok(())
 }
 
+/// Whether a run over a sink that takes 5 bytes a call, and whose second call fails, says so and leaves a front part.
+fn leaves_a_front_part(alloc: Global, words: &[String]) -> Result<bool, AllocError> {
+    let mut shelf = shelf_with(alloc, ONE_RUN, DRIVER, 0)?;
+    let fail = Vec::from_slice(alloc, &[2])?;
+    let mut sink = MemSink::new(alloc, 1_000, fail, 5)?;
+    let answer = serve(alloc, words, &mut shelf, &mut sink);
+    Ok(answer == Status::WriteFault && sink.bytes() == b"d1 lo".as_slice())
+}
+
 #[test]
 fn a_write_that_fails_leaves_a_front_part(rt: HostRuntime) -> Result<(), Fail> {
-    let alloc = rt.alloc();
-    let words = parts(alloc, "run s d", ' ')?;
-    let mut shelf = MemShelf::new(two_texts(alloc, ONE_RUN, DRIVER)?, Vec::new(alloc), 4_096);
-    let mut sink = MemSink::new(alloc, 1_000, Vec::from_slice(alloc, &[2])?, 5)?;
-    let answer = serve(alloc, words.as_slice(), &mut shelf, &mut sink);
-    assert!(rt; answer == Status::WriteFault && sink.bytes() == b"d1 lo".as_slice());
+    let words = words_of(rt.alloc(), "run s d")?;
+    assert!(rt; leaves_a_front_part(rt.alloc(), words.as_slice())?);
     Ok(())
 }

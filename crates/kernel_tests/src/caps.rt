@@ -1,15 +1,24 @@
 //! All that four owners can have at most, and its undoing in each order of the owners.
 ghost use Rattle.std.specs.Prelude.{◌≡◌, ◌<◌, ◌≤◌};
 
-use crate::tracking::{Answer, BYTE, ask, new_tracked};
+use crate::tables::ONE_MORE;
+use crate::tracking::{first_wrong, make, new_tracked};
+use crate::updates::actor_at;
 use kernel_tables::Row;
-use sd_base::{Memory, Steps};
+use sd_base::{Layout, Memory, Steps};
 use std::alloc::Global;
 use std::marker::Brand;
 use std::process::Abort;
 use std::sync::ledger::{Blank, Ledger};
 use std::test::Fail;
-use update_tracker::{Refusal, Tracked, Update};
+use update_tracker::{Tracked, Update};
+
+/// Elements of one byte.
+const BYTE: Layout = Layout {
+    elem: 0,
+    size: 1,
+    nullterm: false,
+};
 
 /// The updates that fill one owner's share of everything: 4,096 blocks and as many releases, 64 lines, 32 ranges of ports, 32 devices,
 /// 32 parameters, 64 timers, 16 locks, 512 holds, 64 items of work and 9 masks.
@@ -101,133 +110,83 @@ fn filling(owner: u8, place: u16) -> Update {
     share(owner, place - 8_352)
 }
 
-/// One more of each kind that an owner can have many of.
-const ONE_MORE: [(Update, Answer); 9] = [
-    (
-        Update::Grant {
-            layout: BYTE,
-            n: 1,
-            image: false,
-        },
-        Err(Refusal::NoRoom),
-    ),
-    (
-        Update::Line {
-            line: 0,
-            handler: 0,
-        },
-        Err(Refusal::Busy),
-    ),
-    (Update::Ports { base: 0, n: 1 }, Err(Refusal::Full)),
-    (Update::Device { id: 0 }, Err(Refusal::Full)),
-    (Update::Param { key: 32, value: 0 }, Err(Refusal::Full)),
-    (
-        Update::Timer {
-            id: 64,
-            due: 5,
-            handler: 0,
-            arg: 0,
-        },
-        Err(Refusal::Full),
-    ),
-    (Update::Hold { domain: 0 }, Err(Refusal::Full)),
-    (Update::Work { handler: 0, arg: 0 }, Err(Refusal::Full)),
-    (Update::Mask { task: 0 }, Err(Refusal::Busy)),
-];
-
 /// Fills the shares of four owners, one update of each in turn.
 fn fill(rt: &impl Abort, tracked: &mut Tracked) {
     for place in 0..ALL {
         for owner in 1..5u8 {
-            assert!(rt;
-                ask(rt, tracked, owner, filling(owner, place)).is_ok(),
-                "{owner} {place}"
-            );
+            make(rt, tracked, owner, filling(owner, place));
         }
     }
 }
 
-/// Asks for one more of each kind.
-fn one_more(rt: &impl Abort, tracked: &mut Tracked) {
-    for place in 0..ONE_MORE.len() {
-        let (update, wanted) = ONE_MORE[place];
-        assert_eq!(rt; ask(rt, tracked, 3, update), wanted, "at {place}");
-    }
+/// New tables with four full owners, to whom nothing more is given.
+fn new_full(rt: &impl Abort, alloc: Global) -> Result<Tracked, Memory> {
+    let mut tracked = new_tracked(alloc, 4)?;
+    fill(rt, &mut tracked);
+    assert_eq!(rt; first_wrong(alloc, &mut tracked, ONE_MORE)?, "");
+    Ok(tracked)
 }
 
-/// Of an owner whose updates were taken back there is no row left, and of each other all.
-fn rows_are_left(rt: &impl Abort, tracked: &Tracked, owner: u8, left: u32)
-    requires owner { owner ≤ 4 }
+/// Takes back an owner's updates, which takes its own rows along, and none of those of the owners that are left.
+fn take_back<L: Ledger>(
+    rt: &impl Abort,
+    tracked: &mut Tracked,
+    steps: &mut Steps<L>,
+    owner: u8,
+    left: u32,
+)
     requires left { left ≤ 3 }
 {
+    assert!(rt; 0 < owner && owner <= 4);
+    tracked.take_back(owner, steps);
     let rows = OWN_ROWS * left + if left == 0 { 0 } else { SHARED_ROWS };
-    assert_eq!(rt; tracked.undone().len(), usize::from(ALL));
-    assert_eq!(rt;
-        tracked.kernel().row(rows),
-        Some(Row::Clock { now: 0 }),
-        "{owner} {left}"
-    );
-    assert_eq!(rt;
-        tracked.kernel().grants.blocks(owner).len(),
-        0,
-        "{owner} {left}"
-    );
+    assert!(rt; tracked.undone().len() == usize::from(ALL));
+    assert!(rt; tracked.kernel().row(rows) == Some(Row::Clock { now: 0 }));
+    assert!(rt; tracked.kernel().grants.blocks(owner).len() == 0);
 }
 
-/// The orders of four owners.
-const ORDERS: [[u8; 4]; 24] = [
-    [1, 2, 3, 4],
-    [1, 2, 4, 3],
-    [1, 3, 2, 4],
-    [1, 3, 4, 2],
-    [1, 4, 2, 3],
-    [1, 4, 3, 2],
-    [2, 1, 3, 4],
-    [2, 1, 4, 3],
-    [2, 3, 1, 4],
-    [2, 3, 4, 1],
-    [2, 4, 1, 3],
-    [2, 4, 3, 1],
-    [3, 1, 2, 4],
-    [3, 1, 4, 2],
-    [3, 2, 1, 4],
-    [3, 2, 4, 1],
-    [3, 4, 1, 2],
-    [3, 4, 2, 1],
-    [4, 1, 2, 3],
-    [4, 1, 3, 2],
-    [4, 2, 1, 3],
-    [4, 2, 3, 1],
-    [4, 3, 1, 2],
-    [4, 3, 2, 1],
-];
-
-/// Takes back the four owners' in this order; each takes its own rows along, and no other's.
+/// Takes back the four owners' in this order.
 fn undo_in_order<L: Ledger>(
     rt: &impl Abort,
     alloc: Global,
     steps: &mut Steps<L>,
-    order: [u8; 4],
+    order: &str,
 ) -> Result<(), Memory> {
-    let mut tracked = new_tracked(alloc, 4)?;
-    fill(rt, &mut tracked);
-    one_more(rt, &mut tracked);
+    let mut tracked = new_full(rt, alloc)?;
     for place in 0..4 {
-        let owner = order[place];
-        assert!(rt; 0 < owner && owner <= 4);
-        tracked.take_back(owner, steps);
-        let left = 3 - place as u32;
-        let rows = OWN_ROWS * left + if left == 0 { 0 } else { SHARED_ROWS };
-        assert_eq!(rt; tracked.undone().len(), usize::from(ALL));
-        assert_eq!(rt;
-            tracked.kernel().row(rows),
-            Some(Row::Clock { now: 0 }),
-            "{order:?}"
-        );
-        assert_eq!(rt; tracked.kernel().grants.blocks(owner).len(), 0, "{order:?}");
+        let owner = actor_at(order, place);
+        take_back(rt, &mut tracked, steps, owner, 3 - place as u32);
     }
     Ok(())
 }
+
+/// The orders of four owners.
+const ORDERS: &str = "\
+1 2 3 4
+1 2 4 3
+1 3 2 4
+1 3 4 2
+1 4 2 3
+1 4 3 2
+2 1 3 4
+2 1 4 3
+2 3 1 4
+2 3 4 1
+2 4 1 3
+2 4 3 1
+3 1 2 4
+3 1 4 2
+3 2 1 4
+3 2 4 1
+3 4 1 2
+3 4 2 1
+4 1 2 3
+4 1 3 2
+4 2 1 3
+4 2 3 1
+4 3 1 2
+4 3 2 1
+";
 
 /// Each order, with one counter of steps.
 fn each_order<L: Ledger>(rt: &impl Abort, alloc: Global, blank: Blank) -> Result<(), Memory>
@@ -236,8 +195,8 @@ fn each_order<L: Ledger>(rt: &impl Abort, alloc: Global, blank: Blank) -> Result
     requires some { 0 < L.parts }
 {
     let mut steps = Steps::<L>::start(blank);
-    for place in 0..ORDERS.len() {
-        undo_in_order(rt, alloc, &mut steps, ORDERS[place])?;
+    for order in ORDERS.lines() {
+        undo_in_order(rt, alloc, &mut steps, order)?;
     }
     Ok(())
 }

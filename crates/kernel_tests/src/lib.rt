@@ -11,12 +11,16 @@ mod caps;
 #[cfg(test)]
 mod devices;
 #[cfg(test)]
+mod histories;
+#[cfg(test)]
 mod readings;
 #[cfg(test)]
-mod shown;
+mod tables;
 #[cfg(test)]
 mod tracking;
 #[cfg(test)]
 mod undoing;
+#[cfg(test)]
+mod updates;
 #[cfg(test)]
 mod words;

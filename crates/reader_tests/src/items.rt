@@ -18,7 +18,7 @@ fn unit_of(alloc: Global, text: &str) -> Result<Unit, UnitRefusal> {
 /// How many items a unit has, and the items as lines.
 fn written(alloc: Global, unit: &Unit) -> Result<String, AllocError> {
     let mut out = format!(in alloc; "{} items\n", unit.items.len())?;
-    write_unit(&mut out, unit)?;
+    write_unit(&mut out, unit);
     Ok(out)
 }
 

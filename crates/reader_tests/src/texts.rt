@@ -81,7 +81,7 @@ pub struct Frame<'a> {
     pub wanted: &'a str,
 }
 
-/// A row that came out wrong, or nothing.
+/// A row that came out wrong, with what it came out as, or nothing.
 fn wrong_row(alloc: Global, frame: &Frame<'_>, row: &str) -> Result<String, AllocError> {
     let (text, wanted) = row.split_once(" => ").unwrap_or((row, frame.wanted));
     let whole = format!(in alloc; "{}{text}{}", frame.before, frame.after)?;
@@ -93,27 +93,30 @@ fn wrong_row(alloc: Global, frame: &Frame<'_>, row: &str) -> Result<String, Allo
     }
 }
 
-/// The rows of a table that came out wrong.
+/// The first row of a table that came out wrong, or nothing.
 pub fn wrong_rows(alloc: Global, frame: &Frame<'_>, rows: &str) -> Result<String, AllocError> {
-    let mut out = String::new(alloc);
     for row in rows.lines() {
-        out.push_str(wrong_row(alloc, frame, row)?.as_str())?;
+        let wrong = wrong_row(alloc, frame, row)?;
+        if !wrong.is_empty() {
+            return Ok(wrong);
+        }
     }
-    Ok(out)
+    Ok(String::new(alloc))
 }
 
-/// A row of repeated pieces that does not begin as it is wanted, or nothing.
-fn wrong_repeated(alloc: Global, view: View, row: &str) -> Result<&str, AllocError> {
+/// Whether a row of repeated pieces begins as it is wanted.
+fn begins_right(alloc: Global, view: View, row: &str) -> Result<bool, AllocError> {
     let (text, wanted) = row_text(alloc, row)?;
     let found = read(alloc, view, text.as_str())?;
-    Ok(if found.starts_with(wanted) { "" } else { row })
+    Ok(found.starts_with(wanted))
 }
 
-/// The rows of a table of repeated pieces that do not begin as they are wanted.
-pub fn wrong_limits(alloc: Global, view: View, rows: &str) -> Result<String, AllocError> {
-    let mut out = String::new(alloc);
+/// The first row of a table of repeated pieces that does not begin as it is wanted, or an empty text.
+pub fn wrong_limits<'t>(alloc: Global, view: View, rows: &'t str) -> Result<&'t str, AllocError> {
     for row in rows.lines() {
-        out.push_str(wrong_repeated(alloc, view, row)?)?;
+        if !begins_right(alloc, view, row)? {
+            return Ok(row);
+        }
     }
-    Ok(out)
+    Ok("")
 }

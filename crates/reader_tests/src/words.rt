@@ -1,71 +1,62 @@
 //! The words of texts: each form with its value and its line, what is none, each limit, and texts of a mebibyte.
+use crate::printed::{put, write_after, write_character, write_number};
 use crate::texts::{Frame, View, words_of, wrong_limits, wrong_rows};
 use c_tree::{Keyword, Sign, Suffix, Token, Word};
-use sd_base::Name;
 use std::alloc::{AllocError, Global};
 use std::fmt::Write;
 use std::test::Fail;
 
-fn write_name(out: &mut String, name: &Name) -> Result<(), AllocError> {
-    out.push_str("n")?;
-    for byte in name.bytes() {
-        out.push(char::from(*byte))?;
-    }
-    Ok(())
+fn write_keyword(out: &mut String, keyword: Keyword) {
+    let _ = write!(out, "k{keyword:?}");
 }
 
-fn write_keyword(out: &mut String, keyword: Keyword) -> Result<(), AllocError> {
-    write!(out, "k{keyword:?}")
+fn write_suffixed(out: &mut String, value: u32, suffix: Suffix) {
+    let _ = write!(out, "d{value}{suffix:?}");
 }
 
-fn write_number(out: &mut String, value: u32, suffix: Suffix) -> Result<(), AllocError> {
-    write!(out, "d{value}{suffix:?}")
-}
-
-fn write_character(out: &mut String, byte: u8) -> Result<(), AllocError> {
-    write!(out, "c{byte}")
-}
-
-fn write_string(out: &mut String, bytes: &[u8], number: u32) -> Result<(), AllocError> {
-    write!(out, "s{number}")?;
+fn write_string(out: &mut String, bytes: &[u8], number: u32) {
+    put(out, "s");
+    write_number(out, number);
     for byte in bytes {
-        write!(out, ",{byte}")?;
+        put(out, ",");
+        write_number(out, u32::from(*byte));
     }
-    Ok(())
 }
 
-fn write_sign(out: &mut String, sign: Sign) -> Result<(), AllocError> {
-    write!(out, "{sign:?}")
+fn write_sign(out: &mut String, sign: Sign) {
+    let _ = write!(out, "{sign:?}");
 }
 
-/// A word in short: `n` a name, `k` a reserved word, `d` a number, `c` a character, `s` a string with its number.
-fn write_word(out: &mut String, word: &Word) -> Result<(), AllocError> {
+/// A word in short: `n` a name, `k` a reserved word, `d` a number, `s` a string with its number; a character is its number between apostrophes.
+fn write_word(out: &mut String, word: &Word) {
     match word {
-        Word::Name(name) => write_name(out, name),
+        Word::Name(name) => write_after(out, "n", name),
         Word::Keyword(keyword) => write_keyword(out, *keyword),
-        Word::Number(value, suffix) => write_number(out, *value, *suffix),
+        Word::Number(value, suffix) => write_suffixed(out, *value, *suffix),
         Word::Character(byte) => write_character(out, *byte),
         Word::String(bytes, number) => write_string(out, bytes.as_slice(), *number),
         Word::Sign(sign) => write_sign(out, *sign),
     }
 }
 
-fn write_line(out: &mut String, line: u32) -> Result<(), AllocError> {
-    write!(out, "\n{line}:")
+/// Words, those of each line behind its number.
+fn write_words(out: &mut String, words: &[Token]) {
+    let mut line = 0;
+    for token in words {
+        if token.line != line {
+            line = token.line;
+            put(out, "\n");
+            write_number(out, line);
+        }
+        put(out, " ");
+        write_word(out, &token.word);
+    }
 }
 
 /// How many words there are, and those of each line behind its number.
 fn written(alloc: Global, words: &[Token]) -> Result<String, AllocError> {
     let mut out = format!(in alloc; "{} words", words.len())?;
-    let mut line = 0;
-    for token in words {
-        if token.line != line {
-            line = token.line;
-            write_line(&mut out, line)?;
-        }
-        out.push_str(" ")?;
-        write_word(&mut out, &token.word)?;
-    }
+    write_words(&mut out, words);
     Ok(out)
 }
 
@@ -127,30 +118,30 @@ b
 /* é \x00 */ a";
 
 const WORDS_READ: &str = "112 words
-4: kInt nx_1
-5: n_ Semicolon
-6: ninteger nIn
-7: kAuto kRestrict kKfree
-8: d0Plain d0Plain d15Plain d19Plain d0Plain d255Plain
-9: d2147483647Plain d2147483648Unsigned d4294967295Unsigned
-10: d4294967295Plain d4294967295Plain d1Long d1Long d1UnsignedLong d1UnsignedLong
-11: c97 c34 c39 c92 c10 c9 c13 c0 c34
-12: s0 s1,97,39,98 s2,0,97,10,34
-13: na ShiftLeftAssign nb ShiftLeft nc LessEqual nd
-14: na Decrement Minus nb Arrow nc
-15: na Increment Increment Plus nb
-16: na nb
-17: nc
-18: ne
-19: na Slash Star nb
-23: na
-25: na
-30: nb
-33: nb
-36: BraceOpen BraceClose ParenOpen ParenClose BracketOpen BracketClose Semicolon Comma Dot Arrow Assign Plus Minus Star Slash Percent
-37: Ampersand Bar Caret Tilde Exclamation Less Greater LessEqual GreaterEqual Equal NotEqual ShiftLeft ShiftRight Ampersands Bars Increment Decrement
-38: PlusAssign MinusAssign StarAssign SlashAssign PercentAssign AmpersandAssign BarAssign CaretAssign ShiftLeftAssign ShiftRightAssign Question Colon
-39: na";
+4 kInt nx_1
+5 n_ Semicolon
+6 ninteger nIn
+7 kAuto kRestrict kKfree
+8 d0Plain d0Plain d15Plain d19Plain d0Plain d255Plain
+9 d2147483647Plain d2147483648Unsigned d4294967295Unsigned
+10 d4294967295Plain d4294967295Plain d1Long d1Long d1UnsignedLong d1UnsignedLong
+11 '97' '34' '39' '92' '10' '9' '13' '0' '34'
+12 s0 s1,97,39,98 s2,0,97,10,34
+13 na ShiftLeftAssign nb ShiftLeft nc LessEqual nd
+14 na Decrement Minus nb Arrow nc
+15 na Increment Increment Plus nb
+16 na nb
+17 nc
+18 ne
+19 na Slash Star nb
+23 na
+25 na
+30 nb
+33 nb
+36 BraceOpen BraceClose ParenOpen ParenClose BracketOpen BracketClose Semicolon Comma Dot Arrow Assign Plus Minus Star Slash Percent
+37 Ampersand Bar Caret Tilde Exclamation Less Greater LessEqual GreaterEqual Equal NotEqual ShiftLeft ShiftRight Ampersands Bars Increment Decrement
+38 PlusAssign MinusAssign StarAssign SlashAssign PercentAssign AmpersandAssign BarAssign CaretAssign ShiftLeftAssign ShiftRightAssign Question Colon
+39 na";
 
 #[test]
 fn words_have_their_values_and_lines(rt: HostRuntime) -> Result<(), Fail> {
@@ -238,6 +229,6 @@ a|1048576|||Limit(1, Name)
 
 #[test]
 fn limits_are_passed_one_past_their_values(rt: HostRuntime) -> Result<(), Fail> {
-    assert_eq!(rt; wrong_limits(rt.alloc(), View::Count, LIMITS)?.as_str(), "");
+    assert_eq!(rt; wrong_limits(rt.alloc(), View::Count, LIMITS)?, "");
     Ok(())
 }

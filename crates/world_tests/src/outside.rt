@@ -1,5 +1,5 @@
 //! What no clause says: that each call can succeed, and what a file and standard output do.
-ghost use Rattle.std.specs.Prelude.{IsTrue, IfOk, map};
+ghost use Rattle.std.specs.Prelude.{◌≤◌, IsTrue, IfOk, map};
 ghost use Rattle.sd_outside.specs.Texts.{text_of, names_differ};
 
 use sd_outside::{
@@ -35,17 +35,24 @@ fn fails<S: Shelf>(alloc: Global, shelf: &mut S, name: &str) -> bool {
     read_text(alloc, shelf, name) == Err(TextFault::ReadFault)
 }
 
-#[test]
-fn a_text_is_read_whole_however_short_the_reads_are(rt: HostRuntime) -> Result<(), Fail> {
-    let alloc = rt.alloc();
-    for most in [1, 3, 100] {
-        let mut shelf = MemShelf::new(two_texts(alloc)?, Vec::new(alloc), most);
-        let whole = reads(alloc, &mut shelf, "d1.c", "int init(void)")
+/// Whether both texts are read whole, each once, where a read has at most so many bytes.
+fn are_read_whole(alloc: Global, most: usize) -> Result<bool, AllocError>
+    requires { 1 ≤ most }
+{
+    let mut shelf = MemShelf::new(two_texts(alloc)?, Vec::new(alloc), most);
+    Ok(
+        reads(alloc, &mut shelf, "d1.c", "int init(void)")
             && reads(alloc, &mut shelf, "s", "load d1 1")
             && reads(alloc, &mut shelf, "s", "")
-            && fails(alloc, &mut shelf, "no");
-        assert!(rt; whole, "at {most}");
-    }
+            && fails(alloc, &mut shelf, "no"),
+    )
+}
+
+#[test]
+fn a_text_is_read_whole_however_short_the_reads_are(rt: HostRuntime) -> Result<(), Fail> {
+    assert!(rt; are_read_whole(rt.alloc(), 1)?);
+    assert!(rt; are_read_whole(rt.alloc(), 3)?);
+    assert!(rt; are_read_whole(rt.alloc(), 100)?);
     Ok(())
 }
 

@@ -120,6 +120,6 @@ if (1 / (int)x / x) ;
 
 #[test]
 fn atoms_are_numbered_by_first_use(rt: HostRuntime) -> Result<(), Fail> {
-    assert_eq!(rt; wrong_rows(rt.alloc(), &ATOMS, NUMBERED)?.as_str(), "");
+    assert_eq!(rt; wrong_rows(rt.alloc(), &ATOMS, NUMBERED).as_str(), "");
     Ok(())
 }

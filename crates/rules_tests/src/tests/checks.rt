@@ -1,8 +1,7 @@
 //! Checks as text. An inequality is written by its left side, which is at most 0; a guard stands behind a bar.
-use super::forms::write_form;
+use super::forms::{put, write_form};
 use checked_tree::{Check, CheckedExpr, CheckedFn, Cond};
 use dep_expr::Lin;
-use std::alloc::AllocError;
 use std::fmt::Write;
 
 /// What a function's atoms are called: its slots and its atoms by number.
@@ -13,118 +12,106 @@ pub struct Atoms<'a> {
 }
 
 /// An atom with what it is multiplied by.
-fn write_term(
-    out: &mut String,
-    atoms: &Atoms<'_>,
-    is_first: bool,
-    times: i64,
-    atom: usize,
-) -> Result<(), AllocError> {
+fn write_term(out: &mut String, atoms: &Atoms<'_>, is_first: bool, times: i64, atom: usize) {
     if times < 0 {
-        out.push_str("-")?;
+        put(out, "-");
     } else if !is_first {
-        out.push_str("+")?;
+        put(out, "+");
     }
     if times.unsigned_abs() != 1 {
-        write!(out, "{}*", times.unsigned_abs())?;
+        let _ = write!(out, "{}*", times.unsigned_abs());
     }
     match atoms.forms.get(atom) {
         Some(form) => write_form(out, atoms.names, form),
-        None => write!(out, "atom {atom}"),
+        None => {
+            let _ = write!(out, "atom {atom}");
+        }
     }
 }
 
 /// A linear form, its atoms in the order of their numbers.
-fn write_lin(out: &mut String, atoms: &Atoms<'_>, lin: &Lin) -> Result<(), AllocError> {
+fn write_lin(out: &mut String, atoms: &Atoms<'_>, lin: &Lin) {
     let mut is_first = true;
     for (times, atom) in lin.terms() {
-        write_term(out, atoms, is_first, *times, *atom)?;
+        write_term(out, atoms, is_first, *times, *atom);
         is_first = false;
     }
     let constant = lin.constant();
     if is_first {
-        write!(out, "{constant}")?;
+        let _ = write!(out, "{constant}");
     } else if constant > 0 {
-        write!(out, "+{constant}")?;
+        let _ = write!(out, "+{constant}");
     } else if constant < 0 {
-        write!(out, "{constant}")?;
+        let _ = write!(out, "{constant}");
     }
-    Ok(())
 }
 
-fn write_cond(out: &mut String, atoms: &Atoms<'_>, cond: &Cond) -> Result<(), AllocError> {
+fn write_cond(out: &mut String, atoms: &Atoms<'_>, cond: &Cond) {
     match cond {
         Cond::Le(inequality) => {
-            write_lin(out, atoms, &inequality.left)?;
+            write_lin(out, atoms, &inequality.left);
             if let Some(guard) = &inequality.guard {
-                out.push_str(" | ")?;
-                write_lin(out, atoms, guard)?;
+                put(out, " | ");
+                write_lin(out, atoms, guard);
             }
         }
         Cond::Aligned { gap, size, guard } => {
-            write_lin(out, atoms, gap)?;
-            write!(out, " by {size} | ")?;
-            write_lin(out, atoms, guard)?;
+            write_lin(out, atoms, gap);
+            let _ = write!(out, " by {size} | ");
+            write_lin(out, atoms, guard);
         }
         Cond::NonZero(number) => {
-            write_lin(out, atoms, number)?;
-            out.push_str(" not 0")?;
+            write_lin(out, atoms, number);
+            put(out, " not 0");
         }
         Cond::Equal(number, value) => {
-            write_lin(out, atoms, number)?;
-            write!(out, " is {value}")?;
+            write_lin(out, atoms, number);
+            let _ = write!(out, " is {value}");
         }
         Cond::Term { at, new } => {
-            out.push_str("at ")?;
-            write_lin(out, atoms, at)?;
+            put(out, "at ");
+            write_lin(out, atoms, at);
             if let Some(byte) = new {
-                out.push_str(" new ")?;
-                write_lin(out, atoms, byte)?;
+                put(out, " new ");
+                write_lin(out, atoms, byte);
             }
         }
         Cond::Kept { tag, new, at, size } => {
-            out.push_str("old ")?;
-            write_lin(out, atoms, tag)?;
-            out.push_str(" new ")?;
-            write_lin(out, atoms, new)?;
-            out.push_str(" at ")?;
-            write_lin(out, atoms, at)?;
-            write!(out, " bytes {size}")?;
+            put(out, "old ");
+            write_lin(out, atoms, tag);
+            put(out, " new ");
+            write_lin(out, atoms, new);
+            put(out, " at ");
+            write_lin(out, atoms, at);
+            let _ = write!(out, " bytes {size}");
         }
     }
-    Ok(())
 }
 
 /// A check: its kind and its condition.
-fn write_check(out: &mut String, atoms: &Atoms<'_>, check: &Check) -> Result<(), AllocError> {
-    write!(out, "{:?} ", check.kind)?;
-    write_cond(out, atoms, &check.cond)
+fn write_check(out: &mut String, atoms: &Atoms<'_>, check: &Check) {
+    let _ = write!(out, "{:?} ", check.kind);
+    write_cond(out, atoms, &check.cond);
 }
 
 /// The checks of a function, each on a line of its own with two spaces before it. The number of a check stands there only where it is not its place counted
 /// from 1, and its line only where it is not this one.
-pub fn write_checks(
-    out: &mut String,
-    names: &[String],
-    function: &CheckedFn,
-    line: u32,
-) -> Result<(), AllocError> {
+pub fn write_checks(out: &mut String, names: &[String], function: &CheckedFn, line: u32) {
     let atoms = Atoms {
         names,
         forms: function.atoms.as_slice(),
     };
     let mut number = 1;
     for check in function.checks.as_slice() {
-        out.push_str("  ")?;
+        put(out, "  ");
         if check.id != number {
-            write!(out, "#{} ", check.id)?;
+            let _ = write!(out, "#{} ", check.id);
         }
         if check.line != line {
-            write!(out, "{} ", check.line)?;
+            let _ = write!(out, "{} ", check.line);
         }
-        write_check(out, &atoms, check)?;
-        out.push_str("\n")?;
+        write_check(out, &atoms, check);
+        put(out, "\n");
         number = number.saturating_add(1);
     }
-    Ok(())
 }

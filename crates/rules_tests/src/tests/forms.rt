@@ -1,45 +1,52 @@
 //! Checked expressions as text: a form by its parts, then the numbers of its own checks, each behind a `#`.
 use checked_tree::{Arithmetic, CheckedExpr, Comparison, Logic, PointerSum, Scalar, Unary};
 use sd_base::Name;
-use std::alloc::AllocError;
 use std::fmt::Write;
 
+/// Adds a text. Where memory is wanting it is left out, and what is written is another text than the one that is wanted: no call of a printer fails, since what a
+/// function costs to prove grows faster than the calls in it that can.
+pub fn put(out: &mut String, text: &str) {
+    let _ = out.push_str(text);
+}
+
 /// A name of a text.
-pub fn write_name(out: &mut String, name: &Name) -> Result<(), AllocError> {
+pub fn write_name(out: &mut String, name: &Name) {
     for byte in name.bytes() {
-        out.push(char::from(*byte))?;
+        let _ = out.push(char::from(*byte));
     }
-    Ok(())
 }
 
 /// The name of a slot.
-pub fn write_slot(out: &mut String, names: &[String], slot: u32) -> Result<(), AllocError> {
+pub fn write_slot(out: &mut String, names: &[String], slot: u32) {
     match names.get(slot as usize) {
-        Some(name) => out.push_str(name.as_str()),
-        None => write!(out, "slot {slot}"),
+        Some(name) => put(out, name.as_str()),
+        None => {
+            let _ = write!(out, "slot {slot}");
+        }
     }
 }
 
 /// A type of one number; a pointer with the bytes that its constant annotation lets it reach.
-pub fn write_scalar(out: &mut String, scalar: Scalar) -> Result<(), AllocError> {
+pub fn write_scalar(out: &mut String, scalar: Scalar) {
     match scalar {
-        Scalar::Void => out.push_str("void"),
-        Scalar::U8 => out.push_str("u8"),
-        Scalar::I8 => out.push_str("i8"),
-        Scalar::U16 => out.push_str("u16"),
-        Scalar::I16 => out.push_str("i16"),
-        Scalar::I32 => out.push_str("i32"),
-        Scalar::U32 => out.push_str("u32"),
-        Scalar::Pointer { size } => write!(out, "p{size}"),
+        Scalar::Void => put(out, "void"),
+        Scalar::U8 => put(out, "u8"),
+        Scalar::I8 => put(out, "i8"),
+        Scalar::U16 => put(out, "u16"),
+        Scalar::I16 => put(out, "i16"),
+        Scalar::I32 => put(out, "i32"),
+        Scalar::U32 => put(out, "u32"),
+        Scalar::Pointer { size } => {
+            let _ = write!(out, "p{size}");
+        }
     }
 }
 
 /// The numbers of checks.
-pub fn write_ids(out: &mut String, ids: &[usize]) -> Result<(), AllocError> {
+pub fn write_ids(out: &mut String, ids: &[usize]) {
     for id in ids {
-        write!(out, "#{id}")?;
+        let _ = write!(out, "#{id}");
     }
-    Ok(())
 }
 
 fn unary_sign(op: Unary) -> &'static str {
@@ -94,21 +101,23 @@ fn moved_sign(sum: PointerSum) -> &'static str {
 }
 
 /// A checked expression.
-pub fn write_form(out: &mut String, names: &[String], e: &CheckedExpr) -> Result<(), AllocError> {
+pub fn write_form(out: &mut String, names: &[String], e: &CheckedExpr) {
     match e {
         CheckedExpr::Number { value, scalar } => {
-            write!(out, "{value}")?;
+            let _ = write!(out, "{value}");
             if *scalar == Scalar::U32 {
-                out.push_str("u")?;
+                put(out, "u");
             }
         }
-        CheckedExpr::Null => out.push_str("null")?,
-        CheckedExpr::Local { slot } => write_slot(out, names, *slot)?,
-        CheckedExpr::Block { base } => write!(out, "b{base}")?,
+        CheckedExpr::Null => put(out, "null"),
+        CheckedExpr::Local { slot } => write_slot(out, names, *slot),
+        CheckedExpr::Block { base } => {
+            let _ = write!(out, "b{base}");
+        }
         CheckedExpr::Through { pointer, checks } => {
-            out.push_str("*")?;
-            write_form(out, names, pointer.get())?;
-            write_ids(out, checks.as_slice())?;
+            put(out, "*");
+            write_form(out, names, pointer.get());
+            write_ids(out, checks.as_slice());
         }
         CheckedExpr::Element {
             pointer,
@@ -116,29 +125,29 @@ pub fn write_form(out: &mut String, names: &[String], e: &CheckedExpr) -> Result
             size,
             checks,
         } => {
-            write_form(out, names, pointer.get())?;
-            write!(out, "[{size}*")?;
-            write_form(out, names, index.get())?;
-            out.push_str("]")?;
-            write_ids(out, checks.as_slice())?;
+            write_form(out, names, pointer.get());
+            let _ = write!(out, "[{size}*");
+            write_form(out, names, index.get());
+            put(out, "]");
+            write_ids(out, checks.as_slice());
         }
         CheckedExpr::Field {
             place,
             offset,
             checks,
         } => {
-            write_form(out, names, place.get())?;
-            write!(out, ".{offset}")?;
-            write_ids(out, checks.as_slice())?;
+            write_form(out, names, place.get());
+            let _ = write!(out, ".{offset}");
+            write_ids(out, checks.as_slice());
         }
         CheckedExpr::Load { scalar, place } => {
-            write_scalar(out, *scalar)?;
-            out.push_str(":")?;
-            write_form(out, names, place.get())?;
+            write_scalar(out, *scalar);
+            put(out, ":");
+            write_form(out, names, place.get());
         }
         CheckedExpr::AddressOf { place } => {
-            out.push_str("&")?;
-            write_form(out, names, place.get())?;
+            put(out, "&");
+            write_form(out, names, place.get());
         }
         CheckedExpr::Moved {
             sum,
@@ -147,27 +156,27 @@ pub fn write_form(out: &mut String, names: &[String], e: &CheckedExpr) -> Result
             size,
             checks,
         } => {
-            out.push_str("(")?;
+            put(out, "(");
             if matches!(sum, PointerSum::PlusPointer) {
-                write!(out, "{size}*")?;
-                write_form(out, names, by.get())?;
-                out.push_str(moved_sign(*sum))?;
-                write_form(out, names, pointer.get())?;
+                let _ = write!(out, "{size}*");
+                write_form(out, names, by.get());
+                put(out, moved_sign(*sum));
+                write_form(out, names, pointer.get());
             } else {
-                write_form(out, names, pointer.get())?;
-                out.push_str(moved_sign(*sum))?;
-                write!(out, "{size}*")?;
-                write_form(out, names, by.get())?;
+                write_form(out, names, pointer.get());
+                put(out, moved_sign(*sum));
+                let _ = write!(out, "{size}*");
+                write_form(out, names, by.get());
             }
-            out.push_str(")")?;
-            write_ids(out, checks.as_slice())?;
+            put(out, ")");
+            write_ids(out, checks.as_slice());
         }
         CheckedExpr::Unary { op, scalar, of } => {
-            out.push_str(unary_sign(*op))?;
-            write_scalar(out, *scalar)?;
-            out.push_str("(")?;
-            write_form(out, names, of.get())?;
-            out.push_str(")")?;
+            put(out, unary_sign(*op));
+            write_scalar(out, *scalar);
+            put(out, "(");
+            write_form(out, names, of.get());
+            put(out, ")");
         }
         CheckedExpr::Binary {
             op,
@@ -176,13 +185,13 @@ pub fn write_form(out: &mut String, names: &[String], e: &CheckedExpr) -> Result
             right,
             checks,
         } => {
-            write_scalar(out, *scalar)?;
-            out.push_str("(")?;
-            write_form(out, names, left.get())?;
-            out.push_str(arithmetic_sign(*op))?;
-            write_form(out, names, right.get())?;
-            out.push_str(")")?;
-            write_ids(out, checks.as_slice())?;
+            write_scalar(out, *scalar);
+            put(out, "(");
+            write_form(out, names, left.get());
+            put(out, arithmetic_sign(*op));
+            write_form(out, names, right.get());
+            put(out, ")");
+            write_ids(out, checks.as_slice());
         }
         CheckedExpr::Compare {
             op,
@@ -190,20 +199,19 @@ pub fn write_form(out: &mut String, names: &[String], e: &CheckedExpr) -> Result
             left,
             right,
         } => {
-            write_scalar(out, *scalar)?;
-            out.push_str("(")?;
-            write_form(out, names, left.get())?;
-            out.push_str(comparison_sign(*op))?;
-            write_form(out, names, right.get())?;
-            out.push_str(")")?;
+            write_scalar(out, *scalar);
+            put(out, "(");
+            write_form(out, names, left.get());
+            put(out, comparison_sign(*op));
+            write_form(out, names, right.get());
+            put(out, ")");
         }
         CheckedExpr::Logical { op, left, right } => {
-            out.push_str("(")?;
-            write_form(out, names, left.get())?;
-            out.push_str(logic_sign(*op))?;
-            write_form(out, names, right.get())?;
-            out.push_str(")")?;
+            put(out, "(");
+            write_form(out, names, left.get());
+            put(out, logic_sign(*op));
+            write_form(out, names, right.get());
+            put(out, ")");
         }
     }
-    Ok(())
 }

@@ -93,7 +93,7 @@ int sum(int *count(n) p, unsigned n) {~  unsigned i;~  int s;~  while (i < n) {~
 #[test]
 fn functions_are_checked_line_by_line(rt: HostRuntime) -> Result<(), Fail> {
     assert_eq!(rt;
-        wrong_texts(rt.alloc(), Show::Checks, FUNCTIONS)?.as_str(),
+        wrong_texts(rt.alloc(), Show::Checks, FUNCTIONS).as_str(),
         ""
     );
     Ok(())

@@ -6,7 +6,7 @@ use std::alloc::{AllocError, Global};
 
 fn spelled(alloc: Global, name: &Name, ending: &str) -> Result<String, AllocError> {
     let mut out = String::new(alloc);
-    write_name(&mut out, name)?;
+    write_name(&mut out, name);
     out.push_str(ending)?;
     Ok(out)
 }

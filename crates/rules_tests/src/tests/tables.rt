@@ -1,8 +1,9 @@
 //! Tables of texts, each with what becomes of it.
 //!
 //! A row is one line; behind it stand the lines that are wanted of it, with two spaces before each. A line that begins with `//` is a heading.
-use super::texts::{View, laid, offsets, seen, verdict};
-use std::alloc::{AllocError, Global};
+use super::forms::put;
+use super::texts::{View, laid, seen, verdict};
+use std::alloc::Global;
 use std::fmt::Write;
 
 /// What stands around a row, and what is looked at.
@@ -15,55 +16,6 @@ pub struct Frame<'a> {
     pub view: View,
     /// The line on which the row stands.
     pub line: u32,
-}
-
-/// A row as it came out, where it is not as it was wanted.
-fn told(out: &mut String, row: &str, found: &str, wanted: &str) -> Result<(), AllocError> {
-    if found != wanted {
-        out.push_str(row)?;
-        out.push_str("\n")?;
-        out.push_str(found)?;
-    }
-    Ok(())
-}
-
-/// Whether nothing is asked: there is no row, or a heading.
-fn asks_nothing(row: &str) -> bool {
-    row.is_empty() || row.starts_with("//")
-}
-
-fn settle(
-    alloc: Global,
-    out: &mut String,
-    frame: &Frame<'_>,
-    row: &str,
-    wanted: &str,
-) -> Result<(), AllocError> {
-    if asks_nothing(row) {
-        return Ok(());
-    }
-    let text = format!(in alloc; "{}{}{}", frame.before, row, frame.after)?;
-    let found = seen(alloc, text.as_str(), frame.function, frame.view, frame.line)?;
-    told(out, row, found.as_str(), wanted)
-}
-
-/// Those rows of a table that came out wrong.
-pub fn wrong_rows(alloc: Global, frame: &Frame<'_>, table: &str) -> Result<String, AllocError> {
-    let mut out = String::new(alloc);
-    let mut wanted = String::new(alloc);
-    let mut row = String::new(alloc);
-    for line in table.lines() {
-        if line.starts_with("  ") {
-            wanted.push_str(line)?;
-            wanted.push_str("\n")?;
-        } else {
-            settle(alloc, &mut out, frame, row.as_str(), wanted.as_str())?;
-            row = String::from_str(alloc, line)?;
-            wanted.clear();
-        }
-    }
-    settle(alloc, &mut out, frame, row.as_str(), wanted.as_str())?;
-    Ok(out)
 }
 
 /// What of a whole text is looked at.
@@ -79,19 +31,41 @@ pub enum Show {
     Checks,
 }
 
+/// As what the rows of a table are taken.
+#[derive(Clone, Copy)]
+enum Look<'a> {
+    /// As pieces of a text.
+    Row(&'a Frame<'a>),
+    /// As texts.
+    Text(Show),
+}
+
+/// Whether nothing is asked: there is no row, or a heading.
+fn asks_nothing(row: &str) -> bool {
+    row.is_empty() || row.starts_with("//")
+}
+
+/// What a row that is a piece of a text comes to.
+fn found_in(alloc: Global, frame: &Frame<'_>, row: &str) -> String {
+    let mut text = String::new(alloc);
+    put(&mut text, frame.before);
+    put(&mut text, row);
+    put(&mut text, frame.after);
+    seen(alloc, text.as_str(), frame.function, frame.view, frame.line)
+}
+
 /// A piece of a text so many times. In it `#` stands for its number, counted from 0.
-fn repeat(text: &mut String, piece: &str, times: usize) -> Result<(), AllocError> {
+fn repeat(text: &mut String, piece: &str, times: usize) {
     for number in 0..times {
         let mut is_first = true;
         for part in piece.split('#') {
             if !is_first {
-                write!(text, "{number}")?;
+                let _ = write!(text, "{number}");
             }
-            text.push_str(part)?;
+            put(text, part);
             is_first = false;
         }
     }
-    Ok(())
 }
 
 /// Which of the parts between backquotes comes next.
@@ -103,14 +77,14 @@ enum Part {
 }
 
 /// A row with its repeated pieces written out: in "a`3`b#`c" the piece stands three times, with its number.
-fn written_out(alloc: Global, row: &str) -> Result<String, AllocError> {
+fn written_out(alloc: Global, row: &str) -> String {
     let mut text = String::new(alloc);
     let mut next = Part::Plain;
     let mut times = 0usize;
     for part in row.split('`') {
         next = match next {
             Part::Plain => {
-                text.push_str(part)?;
+                put(&mut text, part);
                 Part::Times
             }
             Part::Times => {
@@ -118,60 +92,78 @@ fn written_out(alloc: Global, row: &str) -> Result<String, AllocError> {
                 Part::Piece
             }
             Part::Piece => {
-                repeat(&mut text, part, times)?;
+                repeat(&mut text, part, times);
                 Part::Plain
             }
         };
     }
-    Ok(text)
+    text
 }
 
 /// A text that is written in one line, where `~` stands for a line feed.
-fn in_lines(alloc: Global, row: &str) -> Result<String, AllocError> {
-    let whole = written_out(alloc, row)?;
+fn in_lines(alloc: Global, row: &str) -> String {
+    let whole = written_out(alloc, row);
     let mut text = String::new(alloc);
     for line in whole.as_str().split('~') {
-        text.push_str(line)?;
-        text.push_str("\n")?;
+        put(&mut text, line);
+        put(&mut text, "\n");
     }
-    Ok(text)
+    text
 }
 
-fn settle_text(
-    alloc: Global,
-    out: &mut String,
-    show: Show,
-    row: &str,
-    wanted: &str,
-) -> Result<(), AllocError> {
+/// What a row that is a text comes to.
+fn found_of(alloc: Global, show: Show, row: &str) -> String {
+    let text = in_lines(alloc, row);
+    match show {
+        Show::Verdict => verdict(alloc, text.as_str()),
+        Show::Layout => laid(alloc, text.as_str(), true),
+        Show::Offsets => laid(alloc, text.as_str(), false),
+        Show::Checks => seen(alloc, text.as_str(), 0, View::Checks, 0),
+    }
+}
+
+/// Adds a row as it came out, where it is not as it was wanted.
+fn settle(alloc: Global, out: &mut String, look: Look<'_>, row: &str, wanted: &str) {
     if asks_nothing(row) {
-        return Ok(());
+        return;
     }
-    let text = in_lines(alloc, row)?;
-    let found = match show {
-        Show::Verdict => verdict(alloc, text.as_str())?,
-        Show::Layout => laid(alloc, text.as_str())?,
-        Show::Offsets => offsets(alloc, text.as_str())?,
-        Show::Checks => seen(alloc, text.as_str(), 0, View::Checks, 0)?,
+    let found = match look {
+        Look::Row(frame) => found_in(alloc, frame, row),
+        Look::Text(show) => found_of(alloc, show, row),
     };
-    told(out, row, found.as_str(), wanted)
+    if found.as_str() != wanted {
+        put(out, row);
+        put(out, "\n");
+        put(out, found.as_str());
+    }
 }
 
-/// Those texts of a table that came out wrong.
-pub fn wrong_texts(alloc: Global, show: Show, table: &str) -> Result<String, AllocError> {
+/// Those rows of a table that came out wrong.
+fn wrong(alloc: Global, look: Look<'_>, table: &str) -> String {
     let mut out = String::new(alloc);
     let mut wanted = String::new(alloc);
     let mut row = String::new(alloc);
     for line in table.lines() {
         if line.starts_with("  ") {
-            wanted.push_str(line)?;
-            wanted.push_str("\n")?;
+            put(&mut wanted, line);
+            put(&mut wanted, "\n");
         } else {
-            settle_text(alloc, &mut out, show, row.as_str(), wanted.as_str())?;
-            row = String::from_str(alloc, line)?;
+            settle(alloc, &mut out, look, row.as_str(), wanted.as_str());
+            row.clear();
+            put(&mut row, line);
             wanted.clear();
         }
     }
-    settle_text(alloc, &mut out, show, row.as_str(), wanted.as_str())?;
-    Ok(out)
+    settle(alloc, &mut out, look, row.as_str(), wanted.as_str());
+    out
+}
+
+/// Those rows of a table of pieces that came out wrong.
+pub fn wrong_rows(alloc: Global, frame: &Frame<'_>, table: &str) -> String {
+    wrong(alloc, Look::Row(frame), table)
+}
+
+/// Those texts of a table that came out wrong.
+pub fn wrong_texts(alloc: Global, show: Show, table: &str) -> String {
+    wrong(alloc, Look::Text(show), table)
 }

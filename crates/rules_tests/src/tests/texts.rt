@@ -4,15 +4,17 @@ ghost use Rattle.c_tree.specs.ShortUnit.{IsShortUnit};
 
 use super::bodies::write_statement;
 use super::checks::write_checks;
-use super::forms::{write_form, write_scalar};
+use super::forms::{put, write_form, write_scalar};
 use super::shapes::{write_offsets, write_shape, write_table};
 use super::slots::slot_names;
 use c_tree::{Function, Item, Unit};
 use check_numbering::RuleRefusal;
-use checked_tree::{CheckedFn, CheckedUnit};
-use deputy_types::{TypeRefusal, layouts};
+use checked_tree::{CheckedExpr, CheckedFn, CheckedStmt, CheckedUnit};
+use deputy_layouts::layouts;
+use deputy_types::{TypeRefusal, TypeTable};
 use driver_front::{DriverRefusal, accept, read_driver};
 use rules_stmt::check_unit;
+use safe_code::SafeDriver;
 use std::alloc::{AllocError, Global};
 use std::fmt::Write;
 
@@ -83,6 +85,40 @@ pub enum View {
     Atoms,
 }
 
+/// Its statements but the last, each on a line of its own with two spaces before it.
+fn write_front(out: &mut String, names: &[String], body: &[CheckedStmt]) {
+    let mut left = body.len();
+    for statement in body {
+        if left > 1 {
+            put(out, "  ");
+            write_statement(out, names, statement);
+            put(out, "\n");
+        }
+        left = left.saturating_sub(1);
+    }
+}
+
+/// How many parameters it has, its result, and its shapes.
+fn write_slots(out: &mut String, checked: &CheckedFn) {
+    let _ = write!(out, "  {} parameters, result ", checked.params);
+    write_scalar(out, checked.result);
+    put(out, "\n");
+    for shape in checked.slots.as_slice() {
+        put(out, "  ");
+        write_shape(out, shape);
+        put(out, "\n");
+    }
+}
+
+/// Its atoms, each on a line of its own.
+fn write_atoms(out: &mut String, names: &[String], atoms: &[CheckedExpr]) {
+    for atom in atoms {
+        put(out, "  ");
+        write_form(out, names, atom);
+        put(out, "\n");
+    }
+}
+
 fn write_view(
     alloc: Global,
     out: &mut String,
@@ -90,116 +126,120 @@ fn write_view(
     line: u32,
     f: &Function,
     checked: &CheckedFn,
-) -> Result<(), AllocError> {
-    let names = slot_names(alloc, f)?;
+) {
+    let Ok(names) = slot_names(alloc, f) else {
+        return;
+    };
     match view {
-        View::Checks => write_checks(out, names.as_slice(), checked, line)?,
-        View::Body => {
-            let mut left = checked.body.as_slice().len();
-            for statement in checked.body.as_slice() {
-                if left > 1 {
-                    out.push_str("  ")?;
-                    write_statement(out, names.as_slice(), statement)?;
-                    out.push_str("\n")?;
-                }
-                left = left.saturating_sub(1);
-            }
-        }
-        View::Slots => {
-            write!(out, "  {} parameters, result ", checked.params)?;
-            write_scalar(out, checked.result)?;
-            out.push_str("\n")?;
-            for shape in checked.slots.as_slice() {
-                out.push_str("  ")?;
-                write_shape(out, shape)?;
-                out.push_str("\n")?;
-            }
-        }
-        View::Atoms => {
-            for atom in checked.atoms.as_slice() {
-                out.push_str("  ")?;
-                write_form(out, names.as_slice(), atom)?;
-                out.push_str("\n")?;
-            }
-        }
+        View::Checks => write_checks(out, names.as_slice(), checked, line),
+        View::Body => write_front(out, names.as_slice(), checked.body.as_slice()),
+        View::Slots => write_slots(out, checked),
+        View::Atoms => write_atoms(out, names.as_slice(), checked.atoms.as_slice()),
     }
-    Ok(())
 }
 
-/// One view of the function with this number, or why the text is refused. `NoRule` on this line is written `no rule`.
-pub fn seen(
+/// Why a text is not read.
+fn write_unread(out: &mut String, refusal: DriverRefusal) {
+    let _ = writeln!(out, "  {refusal:?}");
+}
+
+/// Why its declarations are refused.
+fn write_undeclared(out: &mut String, refusal: TypeRefusal) {
+    let _ = writeln!(out, "  {refusal:?}");
+}
+
+/// Why the rules refuse it. `NoRule` on this line is written `no rule`.
+fn write_underived(out: &mut String, refusal: RuleRefusal, line: u32) {
+    if refusal == RuleRefusal::NoRule(line) {
+        put(out, "  no rule\n");
+    } else {
+        let _ = writeln!(out, "  {refusal:?}");
+    }
+}
+
+/// One view of the function with this number.
+fn write_function(
     alloc: Global,
-    text: &str,
+    out: &mut String,
     number: usize,
     view: View,
     line: u32,
-) -> Result<String, AllocError> {
+    unit: &Unit,
+    checked: &CheckedUnit,
+) {
+    match (
+        function(unit, number),
+        checked.functions.as_slice().get(number),
+    ) {
+        (Some(f), Some(g)) => write_view(alloc, out, view, line, f, g),
+        _ => put(out, "  no such function\n"),
+    }
+}
+
+/// One view of the function with this number, or why the text is refused. `NoRule` on this line is written `no rule`.
+pub fn seen(alloc: Global, text: &str, number: usize, view: View, line: u32) -> String {
     let mut out = String::new(alloc);
     match outcome_of(alloc, text) {
-        Outcome::Unread(refusal) => writeln!(out, "  {refusal:?}")?,
-        Outcome::Undeclared(refusal) => writeln!(out, "  {refusal:?}")?,
-        Outcome::Underived(RuleRefusal::NoRule(at)) => {
-            if at == line {
-                out.push_str("  no rule\n")?;
-            } else {
-                writeln!(out, "  NoRule({at})")?;
-            }
-        }
-        Outcome::Underived(refusal) => writeln!(out, "  {refusal:?}")?,
+        Outcome::Unread(refusal) => write_unread(&mut out, refusal),
+        Outcome::Undeclared(refusal) => write_undeclared(&mut out, refusal),
+        Outcome::Underived(refusal) => write_underived(&mut out, refusal, line),
         Outcome::Checked(unit, checked) => {
-            match (
-                function(&unit, number),
-                checked.functions.as_slice().get(number),
-            ) {
-                (Some(f), Some(g)) => write_view(alloc, &mut out, view, line, f, g)?,
-                _ => out.push_str("  no such function\n")?,
+            write_function(alloc, &mut out, number, view, line, &unit, &checked)
+        }
+    }
+    out
+}
+
+/// The table of a text's types, or why it has none.
+#[derive(Drop)]
+enum Declared {
+    Unread(DriverRefusal),
+    Refused(TypeRefusal),
+    Laid(TypeTable),
+}
+
+fn declared(alloc: Global, text: &str) -> Declared {
+    match unit_of(alloc, text.as_bytes()) {
+        Ok(unit) => match layouts(alloc, &unit) {
+            Ok(table) => Declared::Laid(table),
+            Err(refusal) => Declared::Refused(refusal),
+        },
+        Err(refusal) => Declared::Unread(refusal),
+    }
+}
+
+/// The layout of a text, whole or where the members of its structs lie alone; or why it is refused.
+pub fn laid(alloc: Global, text: &str, whole: bool) -> String {
+    let mut out = String::new(alloc);
+    match declared(alloc, text) {
+        Declared::Unread(refusal) => write_unread(&mut out, refusal),
+        Declared::Refused(refusal) => write_undeclared(&mut out, refusal),
+        Declared::Laid(table) => {
+            if whole {
+                write_table(&mut out, &table)
+            } else {
+                write_offsets(&mut out, table.structs())
             }
         }
     }
-    Ok(out)
-}
-
-/// The layout of a text, or why it is refused.
-pub fn laid(alloc: Global, text: &str) -> Result<String, AllocError> {
-    let mut out = String::new(alloc);
-    match unit_of(alloc, text.as_bytes()) {
-        Err(refusal) => writeln!(out, "  {refusal:?}")?,
-        Ok(unit) => match layouts(alloc, &unit) {
-            Err(refusal) => writeln!(out, "  {refusal:?}")?,
-            Ok(table) => write_table(&mut out, &table)?,
-        },
-    }
-    Ok(out)
-}
-
-/// Where the members of a text's structs lie, or why it is refused.
-pub fn offsets(alloc: Global, text: &str) -> Result<String, AllocError> {
-    let mut out = String::new(alloc);
-    match unit_of(alloc, text.as_bytes()) {
-        Err(refusal) => writeln!(out, "  {refusal:?}")?,
-        Ok(unit) => match layouts(alloc, &unit) {
-            Err(refusal) => writeln!(out, "  {refusal:?}")?,
-            Ok(table) => write_offsets(&mut out, table.structs())?,
-        },
-    }
-    Ok(out)
+    out
 }
 
 /// What becomes of a text, by the call that users have.
-fn accepted(alloc: Global, text: &[u8]) -> Result<CheckedUnit, DriverRefusal> {
+fn accepted(alloc: Global, text: &[u8]) -> Result<SafeDriver, DriverRefusal> {
     if text.len() > 1_048_576 {
         return Err(DriverRefusal::Memory);
     }
-    let outcome = accept(alloc, text);
+    let outcome = accept(alloc, 1, text);
     outcome
 }
 
 /// What becomes of a text, in one line.
-pub fn verdict(alloc: Global, text: &str) -> Result<String, AllocError> {
+pub fn verdict(alloc: Global, text: &str) -> String {
     let mut out = String::new(alloc);
     match accepted(alloc, text.as_bytes()) {
-        Ok(_) => out.push_str("  accepted\n")?,
-        Err(refusal) => writeln!(out, "  {refusal:?}")?,
+        Ok(_) => put(&mut out, "  accepted\n"),
+        Err(refusal) => write_unread(&mut out, refusal),
     }
-    Ok(out)
+    out
 }

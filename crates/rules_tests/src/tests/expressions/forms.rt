@@ -207,7 +207,7 @@ x = p[0] && p[1];
 #[test]
 fn expressions_have_their_types(rt: HostRuntime) -> Result<(), Fail> {
     assert_eq!(rt;
-        wrong_rows(rt.alloc(), &FORMS, EXPRESSION_FORMS)?.as_str(),
+        wrong_rows(rt.alloc(), &FORMS, EXPRESSION_FORMS).as_str(),
         ""
     );
     Ok(())

@@ -283,6 +283,6 @@ q = f;
 
 #[test]
 fn an_assigned_local_keeps_the_types_that_name_it(rt: HostRuntime) -> Result<(), Fail> {
-    assert_eq!(rt; wrong_rows(rt.alloc(), &CHECKS, LOCALS)?.as_str(), "");
+    assert_eq!(rt; wrong_rows(rt.alloc(), &CHECKS, LOCALS).as_str(), "");
     Ok(())
 }

@@ -193,9 +193,9 @@ if (*p) { x = 1 / x; } else { while (*t) kfree(q); }
 
 #[test]
 fn other_statements_have_the_checks_of_their_expressions(rt: HostRuntime) -> Result<(), Fail> {
-    assert_eq!(rt; wrong_rows(rt.alloc(), &CHECKS, OTHERS)?.as_str(), "");
+    assert_eq!(rt; wrong_rows(rt.alloc(), &CHECKS, OTHERS).as_str(), "");
     assert_eq!(rt;
-        wrong_rows(rt.alloc(), &FORMS, STATEMENT_FORMS)?.as_str(),
+        wrong_rows(rt.alloc(), &FORMS, STATEMENT_FORMS).as_str(),
         ""
     );
     Ok(())

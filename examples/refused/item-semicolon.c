@@ -1,0 +1,3 @@
+int init(void) {
+  return 1
+}

@@ -1,0 +1,5 @@
+struct ring {
+  int size;
+};
+
+typedef struct ring ring;

@@ -1,0 +1,5 @@
+int init(void) {
+  int error;
+  error = request_ports(768); /* two arguments: the first port, and how many */
+  return error;
+}

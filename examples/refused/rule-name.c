@@ -1,0 +1,5 @@
+int init(void) {
+  int n;
+  n = limit + 1; /* no such name */
+  return n;
+}

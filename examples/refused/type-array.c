@@ -1,0 +1,2 @@
+/* An array has at least one element. */
+int values[0];

@@ -1,0 +1,7 @@
+int level;
+
+int read_level(void) {
+  return level;
+}
+
+char level; /* the name is taken */

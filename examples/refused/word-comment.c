@@ -1,0 +1,3 @@
+int init(void) {
+  return 0; /* a comment that does not end
+}

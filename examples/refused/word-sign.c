@@ -1,0 +1,4 @@
+/* `@` is no sign of C. */
+int init(void) {
+  return 1 @ 2;
+}

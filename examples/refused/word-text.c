@@ -1,0 +1,5 @@
+/* A text ends on its own line. */
+void init_text(void) {
+  prints("first line
+second line");
+}

@@ -190,31 +190,32 @@ pub fn seen(alloc: Global, text: &str, number: usize, view: View, line: u32) -> 
     out
 }
 
-/// The table of a text's types, or why it has none.
+/// What a text declares.
 #[derive(Drop)]
-enum Declared {
+enum TextTypes {
     Unread(DriverRefusal),
     Refused(TypeRefusal),
     Laid(TypeTable),
 }
 
-fn declared(alloc: Global, text: &str) -> Declared {
+/// The table of a text's types, or why it has none.
+fn types_of(alloc: Global, text: &str) -> TextTypes {
     match unit_of(alloc, text.as_bytes()) {
         Ok(unit) => match layouts(alloc, &unit) {
-            Ok(table) => Declared::Laid(table),
-            Err(refusal) => Declared::Refused(refusal),
+            Ok(table) => TextTypes::Laid(table),
+            Err(refusal) => TextTypes::Refused(refusal),
         },
-        Err(refusal) => Declared::Unread(refusal),
+        Err(refusal) => TextTypes::Unread(refusal),
     }
 }
 
 /// The layout of a text, whole or where the members of its structs lie alone; or why it is refused.
 pub fn laid(alloc: Global, text: &str, whole: bool) -> String {
     let mut out = String::new(alloc);
-    match declared(alloc, text) {
-        Declared::Unread(refusal) => write_unread(&mut out, refusal),
-        Declared::Refused(refusal) => write_undeclared(&mut out, refusal),
-        Declared::Laid(table) => {
+    match types_of(alloc, text) {
+        TextTypes::Unread(refusal) => write_unread(&mut out, refusal),
+        TextTypes::Refused(refusal) => write_undeclared(&mut out, refusal),
+        TextTypes::Laid(table) => {
             if whole {
                 write_table(&mut out, &table)
             } else {

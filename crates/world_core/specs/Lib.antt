@@ -1,0 +1,15 @@
+pub mod WorldState
+pub mod Script
+pub mod Showing
+pub mod Failing
+pub mod Calling
+pub mod Stepping
+pub mod Handling
+pub mod Delivering
+pub mod Loading
+pub mod Tasks
+pub mod Clock
+pub mod Inputs
+pub mod Restarting
+pub mod Events
+pub mod Laws

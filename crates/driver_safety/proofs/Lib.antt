@@ -1,3 +1,4 @@
+pub mod declarations
 pub mod checks
 pub mod expressions
 pub mod assignments

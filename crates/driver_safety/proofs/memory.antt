@@ -8,3 +8,5 @@ pub mod Writes
 pub mod OpenWrites
 pub mod MemberWrites
 pub mod ZeroWrites
+pub mod Loading
+pub mod Granting

@@ -33,7 +33,8 @@ pub record AreNumberedIn (f : CheckedFn) (ctx : Context) (asked : List Asked) : 
   pub stand : StandIn f after
 
 -- a call of the function with this number and signature is derived where it stands
-pub record IsCalledIn (f : CheckedFn) (ctx : Context) (number : ℕ) (g : Signature) (x : Option (List ℕ)) (es : List Expr) (c : CheckedStmt) : Type 0 where
+pub record IsCalledIn (f : CheckedFn) (ctx : Context) (number : ℕ) (g : Signature) (x : Option (List ℕ)) (es : List Expr)
+    (c : CheckedStmt) : Type 0 where
   pub types : HasTypes ctx.table
   pub slots : HasSlots ctx
   pub parameters : HasParameters ctx.table g.params
@@ -44,9 +45,12 @@ pub record IsCalledIn (f : CheckedFn) (ctx : Context) (number : ℕ) (g : Signat
 
 -- then in each good state it fails a check, or calls that function with what its parameters take; the state stays
 abbrev pub EachCallIsSound : Type 0
-EachCallIsSound = (f : CheckedFn) (ctx : Context) (number : ℕ) (g : Signature) (x : Option (List ℕ)) (es : List Expr) (c : CheckedStmt) → IsCalledIn f ctx number g x es c
+EachCallIsSound =
+    (f : CheckedFn) (ctx : Context) (number : ℕ) (g : Signature) (x : Option (List ℕ)) (es : List Expr) (c : CheckedStmt)
+    → IsCalledIn f ctx number g x es c
     → (blocks : List Block) (st : State) → IsGood ctx blocks st
-    → Safe (act [] f st (out-CheckedStmt c)) (λ a. (a.state ≡ st) × (vs : List ℤ) × (a.turn ≡ Calls number vs) × TakeEach ctx.table blocks (λ k. slice_index_or vs k (pos 0)) g.params vs)
+    → Safe (act [] f st (out-CheckedStmt c)) (λ a. (a.state ≡ st) × (vs : List ℤ) × (a.turn ≡ Calls number vs) × TakeEach ctx.table blocks
+    (λ k. slice_index_or vs k (pos 0)) g.params vs)
 
 -- what a function gives back, by the names of its slots
 abbrev pub GivesBack : Table → List Block → (ℕ → ℤ) → Returned → Option ℤ → Type 0
@@ -77,4 +81,5 @@ pub record IsReturnedIn (f : CheckedFn) (ctx : Context) (result : Returned) (e :
 abbrev pub EachReturnIsSound : Type 0
 EachReturnIsSound = (f : CheckedFn) (ctx : Context) (result : Returned) (e : Option Expr) (c : CheckedStmt) → IsReturnedIn f ctx result e c
     → (blocks : List Block) (st : State) → IsGood ctx blocks st
-    → Safe (act [] f st (out-CheckedStmt c)) (λ a. (a.state ≡ st) × (v : Option ℤ) × (a.turn ≡ Returns v) × GivesBack ctx.table blocks (local_at st) result v)
+    → Safe (act [] f st (out-CheckedStmt c))
+    (λ a. (a.state ≡ st) × (v : Option ℤ) × (a.turn ≡ Returns v) × GivesBack ctx.table blocks (local_at st) result v)

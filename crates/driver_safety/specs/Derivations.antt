@@ -1,6 +1,7 @@
 -- What the rules' expressions are in a good state: an integer in the range of its type, a pointer that reaches what its bounds say, a place
 -- in a granted block.
-use Rattle.std.specs.Prelude.{◌≡◌, ◌≢◌, IsTrue, ℕ, ◌+◌, ◌*◌, ◌<◌, ◌≤◌, Bool, true, false, List, [], ℤ, pos, Option, Some, None, slice_get, Ok}
+use Rattle.std.specs.Prelude.{◌≡◌, ◌≢◌, IsTrue, ℕ, ◌+◌, ◌*◌, ◌<◌, ◌≤◌, Bool, true, false, List, [], ℤ, pos, Option, Some, None, slice_get}
+use Rattle.std.specs.Prelude.{Ok}
 use Rattle.std.specs.List.{Contains}
 use Rattle.sd_base.specs.Blocks.{Block, block_end}
 use Rattle.checked_tree.specs.declared.expressions.CheckedExpr.{CheckedExpr}
@@ -57,6 +58,8 @@ pub record IsPointer (ctx : Context) (blocks : List Block) (st : State) (p : Poi
   pub high : HasValue st p.high hi
   pub fits : Reaches blocks ctx.table.elems ctx.table.structs (key_shape ctx.table p.elem) p.nullterm lo hi v
   pub sure : p.sure ≡ true → v ≢ pos 0
+  -- a nullterm pointer takes no bounds with it
+  pub ends : p.nullterm ≡ true → (lo ≡ v) × (hi ≡ v)
 
 -- ---- places, by where their type is declared
 -- an element of this type

@@ -19,7 +19,8 @@ use Rattle.driver_safety.specs.WrittenNumbers.{has_words}
 abbrev pub FitsAsNamed : Table → List Block → (ℕ → ℤ) → ℕ → Bounds → ℤ → Type 0
 FitsAsNamed t blocks names elem bounds.Hidden v = ⊥
 FitsAsNamed t blocks names elem bounds.Nullterm v = Fits blocks t.elems t.structs elem true (pos 0) (pos 0) v
-FitsAsNamed t blocks names elem (bounds.Within lo hi) v = Fits blocks t.elems t.structs elem false (edge_value names v lo) (edge_value names v hi) v
+FitsAsNamed t blocks names elem (bounds.Within lo hi) v =
+    Fits blocks t.elems t.structs elem false (edge_value names v lo) (edge_value names v hi) v
 
 -- a value of this shape
 abbrev pub Takes : Table → List Block → (ℕ → ℤ) → Shape → ℤ → Type 0
@@ -48,7 +49,8 @@ CountsParameters ss e = All (λ x. IsIntegerParameter ss x.1) e.terms
 
 pub record HasParameters (t : Table) (ss : List (Option Shape)) : Type 0 where
   pub declared : (k : ℕ) (s : Shape) → slice_get ss k ≡ Some (Some s) → IsDeclared t s
-  pub counts : (k elem : ℕ) (lo hi : Edge) → slice_get ss k ≡ Some (Some (shape.Pointer elem (bounds.Within lo hi))) → CountsParameters ss lo × CountsParameters ss hi
+  pub counts : (k elem : ℕ) (lo hi : Edge) → slice_get ss k ≡ Some (Some (shape.Pointer elem (bounds.Within lo hi)))
+      → CountsParameters ss lo × CountsParameters ss hi
 
 -- expressions with such numbers as C's words can be
 abbrev pub HaveWords : List Expr → Type 0

@@ -12,3 +12,11 @@ pub mod ZeroLaw
 pub mod Handing
 pub mod CallLaw
 pub mod EntryLaw
+pub mod ResultLaw
+pub mod UnionArms
+pub mod KernelLaw
+pub mod DeclarationLaws
+pub mod Activities
+pub mod StepLaw
+pub mod LoadLaw
+pub mod GrantLaw

@@ -18,7 +18,8 @@ use Rattle.checked_tree.specs.declared.units.ImageBlock.{ImageBlock}
 use Rattle.deputy_types.specs.declared.table.GlobalPlace.{GlobalPlace}
 use Rattle.deputy_types.specs.Extents.{key_extent}
 use Rattle.deputy_types.specs.Fitting.{is_open, shape_size}
-use Rattle.deputy_types.specs.Table.{Table, element_at, field, arm, global, literal, member, member_key, is_array, size, has_names, union_shape}
+use Rattle.deputy_types.specs.Table.{Table, element_at, field, arm, global, literal, member, member_key, is_array, size, has_names}
+use Rattle.deputy_types.specs.Table.{union_shape}
 use Rattle.deputy_types.specs.UnitLayout.{elem_shape}
 use Rattle.deputy_rules.specs.Context.{Context, slot_shape}
 use Rattle.deputy_rules.specs.NameValues.{IsNumber}

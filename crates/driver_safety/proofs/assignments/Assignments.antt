@@ -61,7 +61,7 @@ module _ (f : CheckedFn) (ctx : Context) (blocks : List Block) (st : State) (goo
       known_sound f st ctx.first (member ctx.table s m) (λ y. store_member ctx p x s m y.offset y.shape) _ (λ y found.
       store_member_sound f ctx blocks st good types slots p s m y found x from)
 
-  assign_to_sound : (x y : Derived) → Sound f st ctx.first (assign_to ctx x y) (λ c. HandsLightly ctx x → Is x → Is y → LeavesGood c)
+  pub assign_to_sound : (x y : Derived) → Sound f st ctx.first (assign_to ctx x y) (λ c. HandsLightly ctx x → Is x → Is y → LeavesGood c)
   unfolding assign_to store
   assign_to_sound x (derived.Local slot) = known_sound f st ctx.first (slot_shape ctx slot) (assign_local ctx slot x) _ (λ y is.
       weaker f st ctx.first _ _ _ (λ c q light dx dy. q light dx) (assign_local_sound f ctx blocks st good types slots slot x y is))

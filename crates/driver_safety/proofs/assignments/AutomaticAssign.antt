@@ -1,6 +1,8 @@
 -- An assignment to a pointer local without annotation, which takes its bounds with it in two hidden slots; and so each assignment to a
 -- local.
-use Rattle.std.proofs.Common.{◌≡◌, ◌≢◌, ◌⊎◌, inl, inr, ℕ, zero, suc, ◌+◌, ◌<◌, ◌^◌, ◌==◌, nat_lt, IsTrue, Bool, true, false, List, [], ◌∷◌, length, set, ℤ, pos, negsuc, Option, Some, None, Ok, Err, slice_get, slice_set, slice_index_or, if◌then◌else◌, refl, sym, ap, ◌∙◌, subst, true≢false, arith}
+use Rattle.std.proofs.Common.{◌≡◌, ◌≢◌, ◌⊎◌, inl, inr, ℕ, zero, suc, ◌+◌, ◌<◌, ◌^◌, ◌==◌, nat_lt, IsTrue, Bool, true, false, List, [], ◌∷◌}
+use Rattle.std.proofs.Common.{length, set, ℤ, pos, negsuc, Option, Some, None, Ok, Err, slice_get, slice_set, slice_index_or, if◌then◌else◌}
+use Rattle.std.proofs.Common.{refl, sym, ap, ◌∙◌, subst, true≢false, arith}
 use Rattle.std.specs.Ordering.{int_eq}
 use Rattle.std.proofs.lemmas.Bool.{lt-ltb}
 use Rattle.std.proofs.lemmas.Bool.Decides.{Decides-eqb, Decides-int_eq}
@@ -74,7 +76,8 @@ word_lt n h = grind arith
 word_of_is : (z : ℤ) (n : ℕ) → z ≡ pos n → n < 2 ^ 32 → word_of z ≡ Ok n
 word_of_is z n e l = ap word_of e ∙ ap (λ (b : Bool). if b then Ok n else Err Wild) (lt-ltb n (2 ^ 32) l)
 
-pub bounded_is : (v lo hi : ℤ) (a l h : ℕ) → v ≡ pos a → lo ≡ pos l → hi ≡ pos h → a < 2 ^ 32 → l < 2 ^ 32 → h < 2 ^ 32 → bounded v lo hi ≡ Ok
+pub bounded_is : (v lo hi : ℤ) (a l h : ℕ) → v ≡ pos a → lo ≡ pos l → hi ≡ pos h → a < 2 ^ 32 → l < 2 ^ 32 → h < 2 ^ 32
+    → bounded v lo hi ≡ Ok
     (record { value = a; lo = l; hi = h })
 unfolding bounded
 bounded_is v lo hi a l h p q r x y z =

@@ -1,5 +1,7 @@
 -- Stores to elements and to bytes of text leave a good memory.
-use Rattle.std.proofs.Common.{◌≡◌, ◌≢◌, ◌⊎◌, inl, inr, ℕ, zero, suc, ◌+◌, ◌-◌, ◌*◌, ◌%◌, ◌^◌, ◌≤◌, ◌<◌, ◌==◌, IsTrue, Bool, true, false, List, [], ◌∷◌, ◌++◌, All, length, ℤ, pos, negsuc, ◌+ℤ◌, ◌*ℤ◌, Option, Some, None, option_map, unwrap_or, Ok, Err, slice_get, slice_index_or, if◌then◌else◌, refl, sym, ap, ◌∙◌, subst, true≢false, arith}
+use Rattle.std.proofs.Common.{◌≡◌, ◌≢◌, ◌⊎◌, inl, inr, ℕ, zero, suc, ◌+◌, ◌-◌, ◌*◌, ◌%◌, ◌^◌, ◌≤◌, ◌<◌, ◌==◌, IsTrue, Bool, true, false}
+use Rattle.std.proofs.Common.{List, [], ◌∷◌, ◌++◌, All, length, ℤ, pos, negsuc, ◌+ℤ◌, ◌*ℤ◌, Option, Some, None, option_map, unwrap_or, Ok}
+use Rattle.std.proofs.Common.{Err, slice_get, slice_index_or, if◌then◌else◌, refl, sym, ap, ◌∙◌, subst, true≢false, arith}
 use Rattle.std.specs.List.{Contains}
 use Rattle.std.proofs.lemmas.Bool.Decides.{Decides-eqb}
 use Rattle.std.proofs.lemmas.Int.{ints}
@@ -35,7 +37,8 @@ use Rattle.layout_laws.proofs.ZeroFits.{lies_in}
 use Rattle.deputy_types.specs.declared.element.Element.{Element}
 use Rattle.deputy_types.specs.declared.element.Element.TheVariants as element
 use Rattle.deputy_types.specs.Declarations.{own as own_edge, up_to, with_bytes}
-use Rattle.deputy_types.specs.Fitting.{Fits, null, in_text, in_bounds, IsInText, FitsBounds, BytesFit, Part as Lies, is_open, elem_bytes, shape_size, place_value}
+use Rattle.deputy_types.specs.Fitting.{Fits, null, in_text, in_bounds, IsInText, FitsBounds, BytesFit, Part as Lies, is_open, elem_bytes}
+use Rattle.deputy_types.specs.Fitting.{shape_size, place_value}
 use Rattle.deputy_types.specs.Table.{element_at, elem_size}
 use Rattle.deputy_types.specs.UnitLayout.{elem_shape}
 use Rattle.deputy_types.proofs.Inversions.{some_then}

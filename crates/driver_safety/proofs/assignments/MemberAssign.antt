@@ -1,7 +1,9 @@
 -- An assignment to a field or an arm is not wild, and leaves a good memory: what is assigned fits the member's type, each pointer whose
 -- annotation names the member fits
 -- with the new value, and a tag keeps its value or its union is clear.
-use Rattle.std.proofs.Common.{◌≡◌, ◌≢◌, ◌⊎◌, inl, inr, ℕ, zero, suc, ◌+◌, ◌-◌, ◌*◌, ◌^◌, ◌≤◌, ◌<◌, ◌==◌, IsTrue, Bool, true, false, List, [], ◌∷◌, ◌++◌, All, length, map, ℤ, pos, negsuc, ◌+ℤ◌, ◌*ℤ◌, neg_ℤ, Option, Some, None, find, option_map, unwrap_or, Ok, Err, slice_get, if◌then◌else◌, refl, sym, ap, ◌∙◌, subst, true≢false, arith}
+use Rattle.std.proofs.Common.{◌≡◌, ◌≢◌, ◌⊎◌, inl, inr, ℕ, zero, suc, ◌+◌, ◌-◌, ◌*◌, ◌^◌, ◌≤◌, ◌<◌, ◌==◌, IsTrue, Bool, true, false, List}
+use Rattle.std.proofs.Common.{[], ◌∷◌, ◌++◌, All, length, map, ℤ, pos, negsuc, ◌+ℤ◌, ◌*ℤ◌, neg_ℤ, Option, Some, None, find, option_map}
+use Rattle.std.proofs.Common.{unwrap_or, Ok, Err, slice_get, if◌then◌else◌, refl, sym, ap, ◌∙◌, subst, true≢false, arith}
 use Rattle.std.proofs.lemmas.Bool.Decides.{Decides-eqb}
 use Rattle.std.proofs.lemmas.Int.{ints}
 use Rattle.std.proofs.lemmas.List.Elements.{All-head, All-tail}
@@ -64,14 +66,16 @@ use Rattle.driver_safety.specs.Derivations.{IsWhole, IsPlace, IsMemberAt, LiesAt
 use Rattle.driver_safety.specs.Goodness.{IsGood, IsBlock}
 use Rattle.driver_safety.specs.Passing.{IsInside, place_of, clear_at}
 use Rattle.driver_safety.specs.StructPlaces.{IsLeaf}
-use Rattle.driver_safety.specs.TypeFacts.{HasTypes, HasSlots, IsInteger, IsDeclared, IsMemberOf, IsSibling, IsIntegerMember, IsBaseOf, NamesSiblings, ShapeNamesSiblings, ShapeNamesOthers}
+use Rattle.driver_safety.specs.TypeFacts.{HasTypes, HasSlots, IsInteger, IsDeclared, IsMemberOf, IsSibling, IsIntegerMember, IsBaseOf}
+use Rattle.driver_safety.specs.TypeFacts.{NamesSiblings, ShapeNamesSiblings, ShapeNamesOthers}
 use Rattle.driver_safety.proofs.assignments.Conversions.{converted_has, converted_once}
 use Rattle.driver_safety.proofs.assignments.ElementStores.{bytes_for, word_stored}
 use Rattle.driver_safety.proofs.assignments.HandedRules.{IsHanded, coerce_to_sound}
 use Rattle.driver_safety.proofs.assignments.Handing.{Hands, handed_sound}
 use Rattle.driver_safety.proofs.assignments.KeptRules.{KeepsTag}
 use Rattle.driver_safety.proofs.assignments.MemberNames.{renamed, all_renamed, OthersHold, others_hold}
-use Rattle.driver_safety.proofs.assignments.MemberStores.{structure, known, base, IsHere, is_here, after, Keeps, member_stays, member_stored}
+use Rattle.driver_safety.proofs.assignments.MemberStores.{structure, known, base, IsHere, is_here, after, Keeps, member_stays}
+use Rattle.driver_safety.proofs.assignments.MemberStores.{member_stored}
 use Rattle.driver_safety.proofs.assignments.SiblingRules.{OthersKeep, AllRenamed, siblings_kept}
 use Rattle.driver_safety.proofs.assignments.SlotAssign.{Leaves, taken_is, word_taken}
 use Rattle.driver_safety.proofs.assignments.StructNames.{old_names}

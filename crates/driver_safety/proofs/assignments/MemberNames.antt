@@ -1,5 +1,7 @@
 -- The siblings of a member that has a new value: which of them the checks of kind Change keep fitting, member by member.
-use Rattle.std.proofs.Common.{◌≡◌, ◌≢◌, ℕ, zero, suc, ◌+◌, ◌*◌, ◌<◌, ◌≤◌, ◌==◌, IsTrue, Bool, true, false, List, [], ◌∷◌, All, map, ℤ, pos, ◌+ℤ◌, ◌*ℤ◌, Option, Some, None, is_some, option_map, unwrap_or, Ok, slice_get, if◌then◌else◌, refl, sym, ap, ◌∙◌, subst, arith}
+use Rattle.std.proofs.Common.{◌≡◌, ◌≢◌, ℕ, zero, suc, ◌+◌, ◌*◌, ◌<◌, ◌≤◌, ◌==◌, IsTrue, Bool, true, false, List, [], ◌∷◌, All, map, ℤ, pos}
+use Rattle.std.proofs.Common.{◌+ℤ◌, ◌*ℤ◌, Option, Some, None, is_some, option_map, unwrap_or, Ok, slice_get, if◌then◌else◌, refl, sym, ap}
+use Rattle.std.proofs.Common.{◌∙◌, subst, arith}
 use Rattle.std.proofs.lemmas.List.Elements.{All-head, All-tail}
 use Rattle.sd_base.specs.Blocks.{Block}
 use Rattle.checked_tree.specs.declared.expressions.CheckedExpr.{CheckedExpr}
@@ -135,7 +137,8 @@ module _ (f : CheckedFn) (ctx : Context) (blocks : List Block) (st : State) (typ
     each_renamed i (y ∷ ms) at =
         let here : i + 0 ≡ i = omega arith in (
           shape_renamed i y (subst (λ (n : ℕ). slice_get t.members n ≡ Some y) here (at 0 y refl)) y.shape refl,
-          each_renamed (i + 1) ms (λ j z h. let there : i + suc j ≡ i + 1 + j = omega arith in subst (λ (n : ℕ). slice_get t.members n ≡ Some
+          each_renamed (i + 1) ms (λ j z h. let there : i + suc j ≡ i + 1 + j = omega arith in subst
+              (λ (n : ℕ). slice_get t.members n ≡ Some
               z) there (at (suc j) z h)),
         )
 
@@ -164,13 +167,15 @@ module _ (f : CheckedFn) (ctx : Context) (blocks : List Block) (st : State) (typ
     abbrev pub OthersHold : Type 0
     OthersHold = OthersKeep f ctx blocks st types old changes k before after 0 (map shape_of t.members)
 
-    from_first : OthersHold → (i : ℕ) (y : Member) → slice_get t.members i ≡ Some y → i ≢ k → FitsAt before i y.shape → FitsAt after i y.shape
+    from_first : OthersHold → (i : ℕ) (y : Member) → slice_get t.members i ≡ Some y → i ≢ k → FitsAt before i y.shape
+        → FitsAt after i y.shape
     from_first others i y h n = subst (λ (q : ℕ). FitsAt before q y.shape → FitsAt after q y.shape) (plus_none i)
         (others_at 0 t.members others i y h (λ e. n (sym (plus_none i) ∙ e)))
 
     -- a sibling that is alone and no arm fits with the new values of all members
     module _ (elems_bytes : List ℕ) (now_is : now ≡ member_value elems_bytes a t) where
-      value_of_member : (bytes : List ℕ) (i : ℕ) (y : Member) → slice_get t.members i ≡ Some y → member_value bytes a t i ≡ place_value bytes
+      value_of_member : (bytes : List ℕ) (i : ℕ) (y : Member) → slice_get t.members i ≡ Some y
+          → member_value bytes a t i ≡ place_value bytes
           (a + y.offset) y.shape
       value_of_member bytes i y h = ap (λ (o : Option Member). unwrap_or (option_map (λ m. place_value bytes (a + m.offset) m.shape) o)
           (pos 0)) h

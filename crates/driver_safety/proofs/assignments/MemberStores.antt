@@ -1,5 +1,8 @@
 -- Stores to members of structs, arms of unions among them, leave a good memory.
-use Rattle.std.proofs.Common.{◌≡◌, ◌≢◌, ◌⊎◌, inl, inr, ℕ, zero, suc, ◌+◌, ◌-◌, ◌*◌, ◌%◌, ◌^◌, ◌≤◌, ◌<◌, ◌==◌, nat_lt, cond, IsTrue, Bool, true, false, ◌&&◌, List, [], ◌∷◌, ◌++◌, All, length, map, take, drop, get_or, ℤ, pos, negsuc, ◌+ℤ◌, ◌*ℤ◌, neg_ℤ, Option, Some, None, find, option_map, unwrap_or, Ok, Err, slice_get, slice_index_or, if◌then◌else◌, refl, sym, ap, ◌∙◌, subst, true≢false, arith}
+use Rattle.std.proofs.Common.{◌≡◌, ◌≢◌, ◌⊎◌, inl, inr, ℕ, zero, suc, ◌+◌, ◌-◌, ◌*◌, ◌%◌, ◌^◌, ◌≤◌, ◌<◌, ◌==◌, nat_lt, cond, IsTrue, Bool}
+use Rattle.std.proofs.Common.{true, false, ◌&&◌, List, [], ◌∷◌, ◌++◌, All, length, map, take, drop, get_or, ℤ, pos, negsuc, ◌+ℤ◌, ◌*ℤ◌}
+use Rattle.std.proofs.Common.{neg_ℤ, Option, Some, None, find, option_map, unwrap_or, Ok, Err, slice_get, slice_index_or, if◌then◌else◌}
+use Rattle.std.proofs.Common.{refl, sym, ap, ◌∙◌, subst, true≢false, arith}
 use Rattle.std.specs.List.{Contains, list_all}
 use Rattle.std.proofs.lemmas.Bool.Decides.{Decides-eqb}
 use Rattle.std.proofs.lemmas.Int.{ints}
@@ -38,7 +41,8 @@ use Rattle.checked_tree.proofs.NumberRanges.{converted_of}
 use Rattle.checked_tree.proofs.Outcomes.{safe_bind}
 use Rattle.layout_laws.proofs.ZeroFits.{lies_in}
 use Rattle.deputy_types.specs.declared.element.Element.{Element}
-use Rattle.deputy_types.specs.Fitting.{Fits, FitsBounds, HoldsFitting, BytesFit, AreZero, Part as Lies, is_any, is_used, elem_bytes, shape_size, place_value, member_value}
+use Rattle.deputy_types.specs.Fitting.{Fits, FitsBounds, HoldsFitting, BytesFit, AreZero, Part as Lies, is_any, is_used, elem_bytes}
+use Rattle.deputy_types.specs.Fitting.{shape_size, place_value, member_value}
 use Rattle.deputy_types.specs.Table.{member, members_of}
 use Rattle.deputy_rules.specs.declared.derived.Derived.{Derived}
 use Rattle.deputy_rules.specs.declared.derived.Derived.TheVariants as derived

@@ -1,5 +1,6 @@
 -- Two numbers of the same element: what fits by the one fits by the other.
-use Rattle.std.proofs.Common.{◌≡◌, ℕ, ◌+◌, ◌-◌, ◌*◌, ◌≤◌, Bool, List, ℤ, Option, Some, option_map, unwrap_or, slice_get, refl, sym, ap, ◌∙◌, subst}
+use Rattle.std.proofs.Common.{◌≡◌, ℕ, ◌+◌, ◌-◌, ◌*◌, ◌≤◌, Bool, List, ℤ, Option, Some, option_map, unwrap_or, slice_get, refl, sym, ap, ◌∙◌}
+use Rattle.std.proofs.Common.{subst}
 use Rattle.sd_base.specs.Blocks.{Block}
 use Rattle.checked_tree.specs.declared.shapes.Shape.{Shape}
 use Rattle.checked_tree.specs.declared.shapes.StructShape.{StructShape}
@@ -26,7 +27,8 @@ module _ (blocks : List Block) (elems : List Shape) (structs : List StructShape)
       part = o.part;
     }
 
-    pub refit : (nullterm : Bool) (lo hi v : ℤ) → Fits blocks elems structs e nullterm lo hi v → Fits blocks elems structs m nullterm lo hi v
+    pub refit : (nullterm : Bool) (lo hi v : ℤ) → Fits blocks elems structs e nullterm lo hi v
+        → Fits blocks elems structs m nullterm lo hi v
     refit nullterm lo hi v (null z) = null z
     refit nullterm lo hi v (in_text n t) = in_text n t
     refit nullterm lo hi v (in_bounds n b) = in_bounds n (record {

@@ -1,6 +1,7 @@
 -- A slot with a new value: where its own pointers and those of its siblings fit then, the frame is good. What the checks of kind Change ask
 -- for is what the siblings need.
-use Rattle.std.proofs.Common.{◌≡◌, ◌≢◌, ◌⊎◌, inl, inr, ℕ, zero, suc, ◌+◌, ◌<◌, ◌==◌, IsTrue, Bool, true, false, List, [], ◌∷◌, All, length, ℤ, pos, Option, Some, None, slice_get, if◌then◌else◌, refl, sym, ap, ◌∙◌, subst, true≢false, arith}
+use Rattle.std.proofs.Common.{◌≡◌, ◌≢◌, ◌⊎◌, inl, inr, ℕ, zero, suc, ◌+◌, ◌<◌, ◌==◌, IsTrue, Bool, true, false, List, [], ◌∷◌, All, length}
+use Rattle.std.proofs.Common.{ℤ, pos, Option, Some, None, slice_get, if◌then◌else◌, refl, sym, ap, ◌∙◌, subst, true≢false, arith}
 use Rattle.std.specs.Option.{option_flatten}
 use Rattle.std.proofs.lemmas.Bool.Decides.{Decides-eqb}
 use Rattle.std.proofs.lemmas.List.Elements.{All-head, All-tail}

@@ -1,5 +1,7 @@
 -- The names of a struct place, as they are and with a new value for one member.
-use Rattle.std.proofs.Common.{◌≡◌, ◌≢◌, ℕ, zero, suc, ◌+◌, ◌==◌, IsTrue, Bool, true, false, List, [], ◌∷◌, ◌++◌, All, map, ℤ, pos, ◌+ℤ◌, ◌*ℤ◌, Option, Some, None, is_some, option_map, unwrap_or, Ok, slice_get, if◌then◌else◌, refl, sym, ap, ◌∙◌, subst, true≢false, arith}
+use Rattle.std.proofs.Common.{◌≡◌, ◌≢◌, ℕ, zero, suc, ◌+◌, ◌==◌, IsTrue, Bool, true, false, List, [], ◌∷◌, ◌++◌, All, map, ℤ, pos, ◌+ℤ◌}
+use Rattle.std.proofs.Common.{◌*ℤ◌, Option, Some, None, is_some, option_map, unwrap_or, Ok, slice_get, if◌then◌else◌, refl, sym, ap, ◌∙◌}
+use Rattle.std.proofs.Common.{subst, true≢false, arith}
 use Rattle.std.proofs.lemmas.Bool.Decides.{Decides-eqb}
 use Rattle.std.proofs.lemmas.Int.{ints}
 use Rattle.std.proofs.lemmas.List.Elements.{All-nil, All-head, All-tail}

@@ -1,5 +1,7 @@
 -- A tag that changes: its union is clear, or it keeps its value.
-use Rattle.std.proofs.Common.{◌≡◌, ◌≢◌, ◌⊎◌, inl, inr, ℕ, zero, suc, ◌+◌, ◌-◌, ◌<◌, ◌==◌, cond, IsTrue, Bool, true, false, ◌&&◌, List, [], ◌∷◌, take, drop, get_or, ℤ, pos, ◌+ℤ◌, neg_ℤ, Option, Some, None, find, slice_get, slice_index_or, refl, sym, ap, ◌∙◌, subst, arith}
+use Rattle.std.proofs.Common.{◌≡◌, ◌≢◌, ◌⊎◌, inl, inr, ℕ, zero, suc, ◌+◌, ◌-◌, ◌<◌, ◌==◌, cond, IsTrue, Bool, true, false, ◌&&◌, List, []}
+use Rattle.std.proofs.Common.{◌∷◌, take, drop, get_or, ℤ, pos, ◌+ℤ◌, neg_ℤ, Option, Some, None, find, slice_get, slice_index_or, refl, sym}
+use Rattle.std.proofs.Common.{ap, ◌∙◌, subst, arith}
 use Rattle.std.specs.List.{list_all}
 use Rattle.std.proofs.lemmas.Bool.Decides.{Decides-eqb}
 use Rattle.std.proofs.lemmas.Int.{ints}

@@ -1,5 +1,7 @@
 -- `zero(l)` is not wild, and leaves a good memory: each arm that a tag may select holds 0 then.
-use Rattle.std.proofs.Common.{◌≡◌, ◌≢◌, ℕ, zero, suc, ◌+◌, ◌*◌, ◌^◌, ◌≤◌, ◌<◌, IsTrue, Bool, true, false, List, [], ◌∷◌, All, length, ℤ, pos, ◌+ℤ◌, Option, Some, Ok, Err, slice_get, option_map, unwrap_or, refl, sym, ap, ◌∙◌, subst, true≢false, arith}
+use Rattle.std.proofs.Common.{◌≡◌, ◌≢◌, ℕ, zero, suc, ◌+◌, ◌*◌, ◌^◌, ◌≤◌, ◌<◌, IsTrue, Bool, true, false, List, [], ◌∷◌, All, length, ℤ}
+use Rattle.std.proofs.Common.{pos, ◌+ℤ◌, Option, Some, Ok, Err, slice_get, option_map, unwrap_or, refl, sym, ap, ◌∙◌, subst, true≢false}
+use Rattle.std.proofs.Common.{arith}
 use Rattle.std.specs.List.{Contains}
 use Rattle.std.proofs.lemmas.List.Elements.{All-nil, All-cons}
 use Rattle.sd_base.specs.Blocks.{Block, block_end}

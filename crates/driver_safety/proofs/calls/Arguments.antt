@@ -1,6 +1,7 @@
 -- The arguments of a call: each has a value as its parameter wants it, the names of parameters stand for those values, and each fits its
 -- parameter behind the checks.
-use Rattle.std.proofs.Common.{◌≡◌, ℕ, zero, suc, IsTrue, List, [], ◌∷◌, ◌++◌, All, map, ℤ, pos, Option, Some, None, slice_get, slice_index_or, unwrap_or, Ok, refl, sym, ap, ◌∙◌, subst, append_assoc, append-nil}
+use Rattle.std.proofs.Common.{◌≡◌, ℕ, zero, suc, IsTrue, List, [], ◌∷◌, ◌++◌, All, map, ℤ, pos, Option, Some, None, slice_get}
+use Rattle.std.proofs.Common.{slice_index_or, unwrap_or, Ok, refl, sym, ap, ◌∙◌, subst, append_assoc, append-nil}
 use Rattle.std.proofs.lemmas.List.Elements.{All-head, All-tail}
 use Rattle.sd_base.specs.Blocks.{Block}
 use Rattle.c_tree.specs.declared.expressions.Expr.{Expr}
@@ -50,7 +51,8 @@ module _ (f : CheckedFn) (ctx : Context) (blocks : List Block) (st : State) (goo
   DeclaredEach [] = Unit {0}
   DeclaredEach (s ∷ ss) = DeclaredOne s × DeclaredEach ss
 
-  pub declared_each : (ss : List (Option Shape)) → ((k : ℕ) (s : Shape) → slice_get ss k ≡ Some (Some s) → IsDeclared ctx.table s) → DeclaredEach ss
+  pub declared_each : (ss : List (Option Shape)) → ((k : ℕ) (s : Shape) → slice_get ss k ≡ Some (Some s) → IsDeclared ctx.table s)
+      → DeclaredEach ss
   declared_each [] h = tt
   declared_each (None ∷ ss) h = (tt, declared_each ss (λ k s e. h (suc k) s e))
   declared_each (Some s ∷ ss) h = (h 0 s refl, declared_each ss (λ k s e. h (suc k) s e))
@@ -66,11 +68,13 @@ module _ (f : CheckedFn) (ctx : Context) (blocks : List Block) (st : State) (goo
   GivenEach (s ∷ ss) [] = ⊥
   GivenEach (s ∷ ss) (a ∷ xs) = GivenOne s a × GivenEach ss xs
 
-  given_one : (s : Option Shape) (x : Derived) (a : Passed) → and_then s (λ y. pass ctx y x) ≡ Some a → DeclaredOne s → IsDerived f ctx blocks st x → GivenOne s a
+  given_one : (s : Option Shape) (x : Derived) (a : Passed) → and_then s (λ y. pass ctx y x) ≡ Some a → DeclaredOne s
+      → IsDerived f ctx blocks st x → GivenOne s a
   given_one None x a e i d = absurd cc
   given_one (Some s) x a e i d = pass_sound f ctx blocks st good types slots s x a e i d
 
-  pass_one_sound : (s : Option Shape) (e : Expr) → IsTrue (has_words e) → DeclaredOne s → Sound f st ctx.first (pass_one ctx s e) (GivenOne s)
+  pass_one_sound : (s : Option Shape) (e : Expr) → IsTrue (has_words e) → DeclaredOne s
+      → Sound f st ctx.first (pass_one ctx s e) (GivenOne s)
   unfolding pass_one
   pass_one_sound s e w i =
       then_sound f st ctx.first _ _ (IsDerived f ctx blocks st) _ (derive_sound f ctx blocks st good types slots e w) (λ x.
@@ -106,7 +110,8 @@ module _ (f : CheckedFn) (ctx : Context) (blocks : List Block) (st : State) (goo
   value_one None a g = absurd g
   value_one (Some s) a g = g
 
-  pub arguments_sound : (ss : List (Option Shape)) (xs : List Passed) → GivenEach ss xs → Safe (arguments [] f st (map passed_argument xs)) (ValueEach ss xs)
+  pub arguments_sound : (ss : List (Option Shape)) (xs : List Passed) → GivenEach ss xs
+      → Safe (arguments [] f st (map passed_argument xs)) (ValueEach ss xs)
   unfolding arguments
   arguments_sound [] [] g = tt
   arguments_sound [] (a ∷ xs) g = absurd g
@@ -128,7 +133,8 @@ module _ (f : CheckedFn) (ctx : Context) (blocks : List Block) (st : State) (goo
   has_value (Some (shape.Struct m)) a v g = absurd g
   has_value (Some shape.Address) a v g = absurd g
 
-  argument_has : (ss : List (Option Shape)) (xs : List Passed) (vs : List ℤ) → ValueEach ss xs vs → (k : ℕ) → HasValue st (sum_at xs k) (slice_index_or vs k (pos 0))
+  argument_has : (ss : List (Option Shape)) (xs : List Passed) (vs : List ℤ) → ValueEach ss xs vs → (k : ℕ)
+      → HasValue st (sum_at xs k) (slice_index_or vs k (pos 0))
   unfolding parts_at
   argument_has [] [] [] g k = record { read = tt; is = refl }
   argument_has [] [] (v ∷ vs) g k = absurd g
@@ -138,15 +144,18 @@ module _ (f : CheckedFn) (ctx : Context) (blocks : List Block) (st : State) (goo
   argument_has (s ∷ ss) (a ∷ xs) (v ∷ vs) g zero = has_value s a v g.0
   argument_has (s ∷ ss) (a ∷ xs) (v ∷ vs) g (suc k) = argument_has ss xs vs g.1 k
 
-  once_int : (t : Scalar) (a : Passed) (v : ℤ) → IsGivenValue f ctx blocks st good types slots (shape.Int t) a v → AreOnce (passed_sum a).parts
+  once_int : (t : Scalar) (a : Passed) (v : ℤ) → IsGivenValue f ctx blocks st good types slots (shape.Int t) a v
+      → AreOnce (passed_sum a).parts
   once_int t (passed.Int k e side) v g = g.2
   once_int t (passed.Pointer h) v g = absurd g
 
-  argument_once : (ss : List (Option Shape)) (xs : List Passed) (vs : List ℤ) → ValueEach ss xs vs → (k : ℕ) (t : Scalar) → slice_get ss k ≡ Some (Some (shape.Int t)) → AreOnce (sum_at xs k).parts
+  argument_once : (ss : List (Option Shape)) (xs : List Passed) (vs : List ℤ) → ValueEach ss xs vs → (k : ℕ) (t : Scalar)
+      → slice_get ss k ≡ Some (Some (shape.Int t)) → AreOnce (sum_at xs k).parts
   argument_once [] xs vs g k t e = absurd cc
   argument_once (s ∷ ss) [] vs g k t e = absurd g
   argument_once (s ∷ ss) (a ∷ xs) [] g k t e = absurd g
-  argument_once (s ∷ ss) (a ∷ xs) (v ∷ vs) g zero t e = once_int t a v (subst (λ (o : Option Shape). ValueOne o a v) (some_same s (Some (shape.Int t)) e) g.0)
+  argument_once (s ∷ ss) (a ∷ xs) (v ∷ vs) g zero t e = once_int t a v (subst
+      (λ (o : Option Shape). ValueOne o a v) (some_same s (Some (shape.Int t)) e) g.0)
   argument_once (s ∷ ss) (a ∷ xs) (v ∷ vs) g (suc k) t e = argument_once ss xs vs g.1 k t e
 
   module _ (ss : List (Option Shape)) (xs : List Passed) (vs : List ℤ) (values : ValueEach ss xs vs) where
@@ -167,8 +176,12 @@ module _ (f : CheckedFn) (ctx : Context) (blocks : List Block) (st : State) (goo
 
     terms_have : (ts : List (ℤ × ℕ)) → All (λ x. IsIntegerParameter ss x.1) ts → TermsHave st ctx (of_arguments xs) value_at ts
     terms_have [] all = tt
-    terms_have (t ∷ ts) all =
-        (name_has t.1, name_once t.1 (All-head (λ x. IsIntegerParameter ss x.1) t ts all), terms_have ts (All-tail (λ x. IsIntegerParameter ss x.1) t ts all))
+    terms_have (t ∷ ts) all = (
+      name_has t.1,
+      name_once t.1 (All-head (λ x. IsIntegerParameter ss x.1) t ts all),
+      terms_have ts (All-tail
+          (λ x. IsIntegerParameter ss x.1) t ts all),
+    )
 
     pub names_have : (e : Edge) → CountsParameters ss e → HaveNames st ctx (of_arguments xs) value_at e
     names_have e counts = record { base = base_has e.base; terms = terms_have e.terms counts }
@@ -183,7 +196,8 @@ module _ (f : CheckedFn) (ctx : Context) (blocks : List Block) (st : State) (goo
   NamedEach n names (s ∷ ss) = NamedOne n names s × NamedEach n names ss
 
   named_shape : (n : Naming) (names : ℕ → ℤ) (s : Shape)
-      → ((elem : ℕ) (lo hi : Edge) → s ≡ shape.Pointer elem (bounds.Within lo hi) → HaveNames st ctx n names lo × HaveNames st ctx n names hi)
+      → ((elem : ℕ) (lo hi : Edge) → s ≡ shape.Pointer elem (bounds.Within lo hi)
+      → HaveNames st ctx n names lo × HaveNames st ctx n names hi)
       → AreNamedBy f ctx blocks st good types slots n names s
   named_shape n names (shape.Int t) h = tt
   named_shape n names (shape.Pointer elem bounds.Hidden) h = tt
@@ -193,7 +207,8 @@ module _ (f : CheckedFn) (ctx : Context) (blocks : List Block) (st : State) (goo
   named_shape n names shape.Address h = tt
 
   pub named_each : (n : Naming) (names : ℕ → ℤ) (ss : List (Option Shape))
-      → ((k elem : ℕ) (lo hi : Edge) → slice_get ss k ≡ Some (Some (shape.Pointer elem (bounds.Within lo hi))) → HaveNames st ctx n names lo × HaveNames st ctx n names hi)
+      → ((k elem : ℕ) (lo hi : Edge) → slice_get ss k ≡ Some (Some (shape.Pointer elem (bounds.Within lo hi)))
+      → HaveNames st ctx n names lo × HaveNames st ctx n names hi)
       → NamedEach n names ss
   named_each n names [] h = tt
   named_each n names (None ∷ ss) h = (tt, named_each n names ss (λ k elem lo hi e. h (suc k) elem lo hi e))
@@ -203,14 +218,16 @@ module _ (f : CheckedFn) (ctx : Context) (blocks : List Block) (st : State) (goo
   )
 
   abbrev TakenOne : Naming → Option Shape → Passed → List ℕ → Type 0
-  TakenOne n s a ids = (names : ℕ → ℤ) (v : ℤ) → DeclaredOne s → ValueOne s a v → NamedOne n names s → Pass f st ids (TakesOne ctx.table blocks names s v)
+  TakenOne n s a ids = (names : ℕ → ℤ) (v : ℤ) → DeclaredOne s → ValueOne s a v → NamedOne n names s
+      → Pass f st ids (TakesOne ctx.table blocks names s v)
 
   coerce_passed_sound : (n : Naming) (s : Option Shape) (a : Passed) → Sound f st ctx.first (coerce_passed ctx n s a) (TakenOne n s a)
   coerce_passed_sound n None a = pure_sound f st ctx.first [] _ (λ names v i g named. absurd g)
   coerce_passed_sound n (Some s) a = coerce_value_sound f ctx blocks st good types slots n s a
 
   abbrev pub TakenEach : Naming → List (Option Shape) → List Passed → List ℕ → Type 0
-  TakenEach n ss xs ids = (names : ℕ → ℤ) (vs : List ℤ) → DeclaredEach ss → ValueEach ss xs vs → NamedEach n names ss → Pass f st ids (TakeEach ctx.table blocks names ss vs)
+  TakenEach n ss xs ids = (names : ℕ → ℤ) (vs : List ℤ) → DeclaredEach ss → ValueEach ss xs vs → NamedEach n names ss
+      → Pass f st ids (TakeEach ctx.table blocks names ss vs)
 
   taken_none : (n : Naming) (xs : List Passed) → TakenEach n [] xs []
   taken_none n [] names [] i g named = pass_none f st _ tt

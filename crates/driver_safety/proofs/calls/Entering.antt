@@ -1,5 +1,6 @@
 -- The first frame of a function is good: its parameters fit by their own names, and all other slots are 0.
-use Rattle.std.proofs.Common.{◌≡◌, ℕ, zero, suc, ◌+◌, ◌-◌, ◌<◌, IsTrue, true, false, List, [], ◌∷◌, ◌++◌, length, replicate, ℤ, pos, ◌+ℤ◌, ◌*ℤ◌, Option, Some, None, slice_get, slice_index_or, refl, sym, ap, ◌∙◌, subst, arith, length-append}
+use Rattle.std.proofs.Common.{◌≡◌, ℕ, zero, suc, ◌+◌, ◌-◌, ◌<◌, IsTrue, true, false, List, [], ◌∷◌, ◌++◌, length, replicate, ℤ, pos, ◌+ℤ◌}
+use Rattle.std.proofs.Common.{◌*ℤ◌, Option, Some, None, slice_get, slice_index_or, refl, sym, ap, ◌∙◌, subst, arith, length-append}
 use Rattle.std.proofs.lemmas.List.{length-replicate}
 use Rattle.std.proofs.lemmas.Option.{slice_get_within}
 use Rattle.std.specs.Option.{option_flatten}
@@ -54,7 +55,8 @@ module _ (a b : ℕ → ℤ) (same : (k : ℕ) → a k ≡ b k) where
 
   edge_same : (v : ℤ) (e : Edge) → edge_value a v e ≡ edge_value b v e
   unfolding edge_value
-  edge_same v e = ap (λ (y : ℤ). edge_from a e.terms (y +ℤ e.bytes)) (base_same v e.base) ∙ terms_same e.terms (edge_base b v e.base +ℤ e.bytes)
+  edge_same v e = ap (λ (y : ℤ). edge_from a e.terms (y +ℤ e.bytes)) (base_same v e.base) ∙ terms_same e.terms
+      (edge_base b v e.base +ℤ e.bytes)
 
 -- ---- the parameters
 module _ (t : Table) (blocks : List Block) (names : ℕ → ℤ) where
@@ -92,7 +94,8 @@ zero_is U32 i = refl
 zero_is I32 i = refl
 
 -- ---- the frame
-module _ (ctx : Context) (params : List (Option Shape)) (f : CheckedFn) (is : IsEnteredIn ctx params f) (blocks : List Block) (m : Memory) (vs : List ℤ)
+module _ (ctx : Context) (params : List (Option Shape)) (f : CheckedFn) (is : IsEnteredIn ctx params f) (blocks : List Block) (m : Memory)
+    (vs : List ℤ)
     (takes : TakeEach ctx.table blocks (λ k. slice_index_or vs k (pos 0)) params vs) where
   abbrev names : ℕ → ℤ
   names k = slice_index_or vs k (pos 0)
@@ -113,20 +116,26 @@ module _ (ctx : Context) (params : List (Option Shape)) (f : CheckedFn) (is : Is
   )
   parameter_holds k (shape.Pointer elem (bounds.Within lo hi)) g = (
     subst (λ (v : ℤ). IsTrue (is_word v)) (as_named k) g.0,
-    subst (λ (v : ℤ). Fits blocks ctx.table.elems ctx.table.structs elem false (edge_value (local_at st) v lo) (edge_value (local_at st) v hi) v) (as_named k)
-        (subst (λ (y : ℤ). Fits blocks ctx.table.elems ctx.table.structs elem false y (edge_value (local_at st) (names k) hi) (names k)) (edge_same names (local_at st) as_named (names k) lo)
-        (subst (λ (y : ℤ). Fits blocks ctx.table.elems ctx.table.structs elem false (edge_value names (names k) lo) y (names k)) (edge_same names (local_at st) as_named (names k) hi) g.1)),
+    subst (λ (v : ℤ). Fits blocks ctx.table.elems ctx.table.structs elem false (edge_value (local_at st) v lo)
+        (edge_value (local_at st) v hi) v) (as_named k)
+        (subst (λ (y : ℤ). Fits blocks ctx.table.elems ctx.table.structs elem false y (edge_value (local_at st) (names k) hi) (names k))
+        (edge_same names (local_at st) as_named (names k) lo)
+        (subst (λ (y : ℤ). Fits blocks ctx.table.elems ctx.table.structs elem false (edge_value names (names k) lo) y (names k))
+        (edge_same names (local_at st) as_named (names k) hi) g.1)),
   )
   parameter_holds k (shape.Struct n) g = absurd g
   parameter_holds k shape.Address g = absurd g
 
   -- a slot that is 0
-  null_fits : (k elem : ℕ) (b : Bounds) → slot_shape ctx k ≡ Some (shape.Pointer elem b) → local_at st k ≡ pos 0 → SlotFits ctx blocks st k elem b
-  null_fits k elem bounds.Hidden h e = let a = is.automatic k elem h in subst (λ (o : Option ℕ). FitsHidden ctx blocks st k elem o) (sym a.1) (null e)
+  null_fits : (k elem : ℕ) (b : Bounds) → slot_shape ctx k ≡ Some (shape.Pointer elem b) → local_at st k ≡ pos 0
+      → SlotFits ctx blocks st k elem b
+  null_fits k elem bounds.Hidden h e = let a = is.automatic k elem h in subst
+      (λ (o : Option ℕ). FitsHidden ctx blocks st k elem o) (sym a.1) (null e)
   null_fits k elem bounds.Nullterm h e = null e
   null_fits k elem (bounds.Within lo hi) h e = null e
 
-  zero_holds : (k : ℕ) (s : Shape) → slot_shape ctx k ≡ Some s → IsSlotShape ctx.table s → local_at st k ≡ pos 0 → SlotHolds ctx blocks st k s
+  zero_holds : (k : ℕ) (s : Shape) → slot_shape ctx k ≡ Some s → IsSlotShape ctx.table s → local_at st k ≡ pos 0
+      → SlotHolds ctx blocks st k s
   zero_holds k (shape.Int s) h i e = subst (λ (v : ℤ). IsTrue (is_of s v)) (sym e) (zero_is s i)
   zero_holds k (shape.Pointer elem b) h i e = (subst (λ (v : ℤ). IsTrue (is_word v)) (sym e) refl, null_fits k elem b h e)
   zero_holds k (shape.Struct n) h i e = absurd i
@@ -135,11 +144,13 @@ module _ (ctx : Context) (params : List (Option Shape)) (f : CheckedFn) (is : Is
   zero_at : (k : ℕ) → slice_get params k ≡ None → local_at st k ≡ pos 0
   zero_at k e = sym (as_named k) ∙ behind_at ctx.table blocks names params vs k takes e
 
-  holds_by : (k : ℕ) (s : Shape) → slot_shape ctx k ≡ Some s → (o : Option (Option Shape)) → slice_get params k ≡ o → SlotHolds ctx blocks st k s
+  holds_by : (k : ℕ) (s : Shape) → slot_shape ctx k ≡ Some s → (o : Option (Option Shape)) → slice_get params k ≡ o
+      → SlotHolds ctx blocks st k s
   holds_by k s h None e = zero_holds k s h (is.slots.shapes k s h) (zero_at k e)
   holds_by k s h (Some x) e =
       let same : x ≡ Some s = sym (ap option_flatten (is.parameters k x e)) ∙ h in
-      parameter_holds k s (subst (λ (o : Option Shape). TakesOne ctx.table blocks names o (names k)) same (taken_at ctx.table blocks names params vs k x takes e))
+      parameter_holds k s (subst
+      (λ (o : Option Shape). TakesOne ctx.table blocks names o (names k)) same (taken_at ctx.table blocks names params vs k x takes e))
 
   value_by : (k : ℕ) (o : Option (Option Shape)) → slice_get params k ≡ o → IsTrue (is_value (local_at st k))
   value_by k None e = subst (λ (v : ℤ). IsTrue (is_value v)) (sym (zero_at k e)) refl

@@ -1,5 +1,6 @@
 -- What is handed over has a value as its taker's type wants it, and fits that type behind the checks.
-use Rattle.std.proofs.Common.{◌≡◌, ℕ, IsTrue, Bool, true, false, List, [], ◌∷◌, ℤ, pos, Option, Some, None, option_map, Ok, refl, sym, ap, ◌∙◌, subst}
+use Rattle.std.proofs.Common.{◌≡◌, ℕ, IsTrue, Bool, true, false, List, [], ◌∷◌, ℤ, pos, Option, Some, None, option_map, Ok, refl, sym, ap}
+use Rattle.std.proofs.Common.{◌∙◌, subst}
 use Rattle.sd_base.specs.Blocks.{Block}
 use Rattle.checked_tree.specs.declared.shapes.Bounds.{Bounds}
 use Rattle.checked_tree.specs.declared.shapes.Bounds.TheVariants as bounds
@@ -115,7 +116,8 @@ module _ (f : CheckedFn) (ctx : Context) (blocks : List Block) (st : State) (goo
   TakenBehind n s a ids = (names : ℕ → ℤ) (v : ℤ) → IsDeclared ctx.table s → IsGivenValue s a v → AreNamedBy n names s
       → Pass f st ids (Takes ctx.table blocks names s v)
 
-  to_pointer : (n : Naming) (elem : ℕ) (b : Bounds) (h : Handed) → Sound f st ctx.first (coerce_value ctx n (shape.Pointer elem b) (passed.Pointer h))
+  to_pointer : (n : Naming) (elem : ℕ) (b : Bounds) (h : Handed)
+      → Sound f st ctx.first (coerce_value ctx n (shape.Pointer elem b) (passed.Pointer h))
       (TakenBehind n (shape.Pointer elem b) (passed.Pointer h))
   unfolding coerce_value coerce_to
   to_pointer n elem bounds.Hidden h =
@@ -132,7 +134,8 @@ module _ (f : CheckedFn) (ctx : Context) (blocks : List Block) (st : State) (goo
 
   pub coerce_value_sound : (n : Naming) (s : Shape) (a : Passed) → Sound f st ctx.first (coerce_value ctx n s a) (TakenBehind n s a)
   unfolding coerce_value
-  coerce_value_sound n (shape.Int t) (passed.Int k e side) = pure_sound f st ctx.first [] _ (λ names v i given named. pass_none f st _ given.0)
+  coerce_value_sound n (shape.Int t) (passed.Int k e side) = pure_sound f st ctx.first [] _
+      (λ names v i given named. pass_none f st _ given.0)
   coerce_value_sound n (shape.Int t) (passed.Pointer h) = pure_sound f st ctx.first [] _ (λ names v i given named. absurd given)
   coerce_value_sound n (shape.Pointer elem b) (passed.Int k e side) = pure_sound f st ctx.first [] _ (λ names v i given named. absurd given)
   coerce_value_sound n (shape.Pointer elem b) (passed.Pointer h) = to_pointer n elem b h

@@ -46,7 +46,8 @@ module _ (f : CheckedFn) (ctx : Context) (blocks : List Block) (st : State) (goo
   slots_named (shape.Int s) = tt
   slots_named (shape.Pointer elem bounds.Hidden) = tt
   slots_named (shape.Pointer elem bounds.Nullterm) = tt
-  slots_named (shape.Pointer elem (bounds.Within lo hi)) = (slots_have f ctx blocks st good types slots lo, slots_have f ctx blocks st good types slots hi)
+  slots_named (shape.Pointer elem (bounds.Within lo hi)) =
+      (slots_have f ctx blocks st good types slots lo, slots_have f ctx blocks st good types slots hi)
   slots_named (shape.Struct s) = tt
   slots_named shape.Address = tt
 
@@ -55,7 +56,8 @@ module _ (f : CheckedFn) (ctx : Context) (blocks : List Block) (st : State) (goo
       → Gives (returned.Value s) (statement.Return ctx.line (Some (passed_argument a)) ids)
   unfolding act optional_argument
   gives_back s a ids g k = safe_same _ _ _ (ap (act [] f st) (statement.outs-Return ctx.line (Some (passed_argument a)) ids))
-      (safe_bind (optional_argument [] f st (Some (passed_argument a))) _ (λ o. (v : ℤ) × (o ≡ Some v) × IsGivenValue f ctx blocks st good types slots s a v) _
+      (safe_bind (optional_argument [] f st (Some (passed_argument a))) _
+      (λ o. (v : ℤ) × (o ≡ Some v) × IsGivenValue f ctx blocks st good types slots s a v) _
       (safe_bind (argument [] f st (passed_argument a)) _ _ _ g (λ v given. (v, refl, given)))
       (λ o there. safe_bind (tests [] f st ids) _ _ _ (k there.0 there.2) (λ u takes.
       (refl, o, refl, subst (λ (o : Option ℤ). GivesBack ctx.table blocks (local_at st) (returned.Value s) o) (sym there.1) takes))))
@@ -72,7 +74,8 @@ module _ (f : CheckedFn) (ctx : Context) (blocks : List Block) (st : State) (goo
       then_sound f st ctx.first _ _ (λ a. pass ctx s x ≡ Some a) _ (lift_sound f st ctx.first (pass ctx s x) _ (λ a e. e)) (λ a.
       then_sound f st ctx.first _ _ _ _ (coerce_value_sound f ctx blocks st good types slots of_slots s a) (λ ids.
       pure_sound f st ctx.first (statement.Return ctx.line (Some (passed_argument a)) ids) _ (λ fits e d.
-      gives_back s a ids (pass_sound f ctx blocks st good types slots s x a e i d) (λ v given. fits (local_at st) v i given (slots_named s))))))
+      gives_back s a ids (pass_sound f ctx blocks st good types slots s x a e i d)
+      (λ v given. fits (local_at st) v i given (slots_named s))))))
 
   pub return_from_sound : (result : Returned) (e : Option Expr) → HasWords e → IsDeclaredResult ctx.table result
       → Sound f st ctx.first (return_from ctx result e) (Gives result)

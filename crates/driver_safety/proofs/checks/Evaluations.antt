@@ -1,5 +1,6 @@
 -- Evaluation with all checks at each form, and what tests in a row give.
-use Rattle.std.proofs.Common.{◌≡◌, ℕ, ◌-◌, ◌==◌, Bool, true, false, List, [], ◌∷◌, ◌++◌, ℤ, pos, ◌+ℤ◌, ◌*ℤ◌, Ok, Err, slice_index_or, if◌then◌else◌, refl, sym, ap, subst}
+use Rattle.std.proofs.Common.{◌≡◌, ℕ, ◌-◌, ◌==◌, Bool, true, false, List, [], ◌∷◌, ◌++◌, ℤ, pos, ◌+ℤ◌, ◌*ℤ◌, Ok, Err, slice_index_or}
+use Rattle.std.proofs.Common.{if◌then◌else◌, refl, sym, ap, subst}
 use Rattle.checked_tree.specs.declared.stops.Stop.TheVariants.{Failed, Wild}
 use Rattle.checked_tree.specs.declared.expressions.Arithmetic.{Arithmetic}
 use Rattle.checked_tree.specs.declared.expressions.CheckedExpr.{CheckedExpr}
@@ -16,7 +17,8 @@ use Rattle.checked_tree.specs.Numbers.{address, converted, unary, arithmetic, co
 use Rattle.checked_tree.specs.Memory.{load}
 use Rattle.checked_tree.specs.Conditions.{State, eval_level, parts, moved, logical}
 use Rattle.checked_tree.specs.Eval.{eval, is_kept, tests, test, check_of}
-use Rattle.checked_tree.proofs.Equations.{at-Number, at-Null, at-Local, at-Block, at-Through, at-Element, at-Field, at-Load, at-AddressOf, at-Moved, at-Unary, at-Binary, at-Compare, at-Logical}
+use Rattle.checked_tree.proofs.Equations.{at-Number, at-Null, at-Local, at-Block, at-Through, at-Element, at-Field, at-Load, at-AddressOf}
+use Rattle.checked_tree.proofs.Equations.{at-Moved, at-Unary, at-Binary, at-Compare, at-Logical}
 use Rattle.checked_tree.proofs.Outcomes.{safe_bind}
 
 -- what is safe before a continuation is safe before another that is as safe

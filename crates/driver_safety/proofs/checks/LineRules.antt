@@ -1,5 +1,6 @@
 -- Statements in turn: what is derived at a line and then numbered holds in every state, once the function is whole.
-use Rattle.std.proofs.Common.{◌≡◌, ℕ, zero, suc, List, [], ◌∷◌, ◌++◌, length, slice_get, Option, Some, None, Result, Ok, Err, refl, sym, ap, ◌∙◌, subst}
+use Rattle.std.proofs.Common.{◌≡◌, ℕ, zero, suc, List, [], ◌∷◌, ◌++◌, length, slice_get, Option, Some, None, Result, Ok, Err, refl, sym, ap}
+use Rattle.std.proofs.Common.{◌∙◌, subst}
 use Rattle.checked_tree.specs.declared.checks.Check.{Check}
 use Rattle.checked_tree.specs.declared.expressions.CheckedExpr.{CheckedExpr}
 use Rattle.checked_tree.specs.declared.units.CheckedFn.{CheckedFn}
@@ -10,7 +11,7 @@ use Rattle.deputy_rules.specs.Context.{Context}
 use Rattle.deputy_rules.specs.Deriving.{Deriving}
 use Rattle.deputy_rules.specs.Numbering.{Numbered, numbered}
 use Rattle.deputy_rules.specs.Statements.{with_numbers, numbered_at, statement_context, at_line}
-use Rattle.driver_safety.specs.Passing.{IsFront}
+use Rattle.driver_safety.specs.Passing.{AreTested, IsFront}
 use Rattle.driver_safety.proofs.checks.Sounding.{front_same, front_front, Sound}
 use Rattle.driver_safety.proofs.checks.TestedChecks.{AreNumbered, numbered_tested}
 
@@ -98,26 +99,28 @@ module _ (f : CheckedFn) where
       afterwards_at _ _ Q _ (each zero p refl) (λ a. weaker_at _ _ _ (λ all h q before. h (one_more Q values a before q))
       (turn_at Q ps (values ++ a ∷ []) (λ i p e. each (suc i) p e)))
 
-  -- one derivation, at a line: the fact holds in every state
-  pub line_at : {A : Type 0} (ctx : Context) (line : ℕ) (p : Context → Deriving A) (Q : State → A → Type 0)
-      → ((st : State) (c : Context) → Sound f st c.first (p c) (Q st)) → SoundAt (at_line ctx line p) (λ a. (st : State) → Q st a)
-  line_at {A} ctx line p Q each = record { run = λ n a out h. by n a out (p (statement_context ctx line n) []) refl h }
+  -- one derivation, at a line: the fact holds in every good state
+  pub line_at : {A W : Type 0} (ctx : Context) (line : ℕ) (p : Context → Deriving A) (P : W → State → Type 0) (Q : W → State → A → Type 0)
+      → ((w : W) (st : State) (n : Numbered) → P w st → (a : A) (t : List Asked) → p (statement_context ctx line n) [] ≡ Some (a, t)
+      → AreTested f st (length n.checks) t → Q w st a)
+      → SoundAt (at_line ctx line p) (λ a. (w : W) (st : State) → P w st → Q w st a)
+  line_at {A} {W} ctx line p P Q each = record { run = λ n a out h. by n a out (p (statement_context ctx line n) []) refl h }
     where
       last : (n : Numbered) (a x : A) (t : List Asked) (out : Numbered) (o : Option Numbered) → p (statement_context ctx line n) [] ≡ Some
           (x, t) → numbered t n ≡ o → with_numbers line x o ≡ Ok (a, out)
-          → Grows n out × (Stands out → (st : State) → Q st a)
+          → Grows n out × (Stands out → (w : W) (st : State) → P w st → Q w st a)
       last n a x t out None q r h = absurd cc
       last n a x t out (Some m) q r h =
           let e = pair_same x a m out h in
           let r' : numbered t n ≡ Some out = r ∙ ap (λ (y : Numbered). Some y) e.1 in
           let grown = (numbered_tested f (record { locals = []; memory = record { bytes = []; granted = [] } }) t n out r') in (
             record { atoms = grown.atoms; checks = grown.checks },
-            λ s st.
+            λ s w st good.
                 let tested = (numbered_tested f st t n out r').tested s.atoms s.checks in
-                subst (Q st) e.0 (((each st (statement_context ctx line n)).run [] x t q).1 tested),
+                subst (Q w st) e.0 (each w st n good x t q tested),
           )
 
       by : (n : Numbered) (a : A) (out : Numbered) (o : Option (A × List Asked)) → p (statement_context ctx line n) [] ≡ o
-          → numbered_at line n o ≡ Ok (a, out) → Grows n out × (Stands out → (st : State) → Q st a)
+          → numbered_at line n o ≡ Ok (a, out) → Grows n out × (Stands out → (w : W) (st : State) → P w st → Q w st a)
       by n a out None q h = absurd cc
       by n a out (Some r) q h = last n a r.0 r.1 out (numbered r.1 n) q refl h

@@ -1,6 +1,7 @@
 -- What a rule ensures where it derives something, in one state: the checks only grow, and where all of them stand in the function, the
 -- fact.
-use Rattle.std.proofs.Common.{◌≡◌, ℕ, suc, zero, ◌+◌, Bool, true, false, List, [], ◌∷◌, ◌++◌, length, Option, Some, None, slice_get, if◌then◌else◌, refl, sym, ap, ◌∙◌, subst, arith}
+use Rattle.std.proofs.Common.{◌≡◌, ℕ, suc, zero, ◌+◌, Bool, true, false, List, [], ◌∷◌, ◌++◌, length, Option, Some, None, slice_get}
+use Rattle.std.proofs.Common.{if◌then◌else◌, refl, sym, ap, ◌∙◌, subst, arith}
 use Rattle.sd_base.specs.declared.kinds.CheckKind.{CheckKind}
 use Rattle.checked_tree.specs.declared.units.CheckedFn.{CheckedFn}
 use Rattle.checked_tree.specs.Conditions.{State}
@@ -63,6 +64,15 @@ module _ (f : CheckedFn) (st : State) (first : ℕ) where
         let one = e.run s r.0.0 r.0.1 r.1 in
         let two = (k r.0.0).run r.0.1 b t r.2 in
         (front_front s r.0.1 t one.0 two.0, λ all. two.1 all (one.1 (tested_front f st first r.0.1 t two.0 all)));
+  }
+
+  -- two facts of one derivation
+  pub both_sound : {A : Type 0} (p : Deriving A) (Q R : A → Type 0) → Sound p Q → Sound p R → Sound p (λ a. Q a × R a)
+  both_sound p Q R a b = record {
+    run = λ s x t h.
+        let l = a.run s x t h in
+        let r = b.run s x t h in
+        (l.0, λ k. (l.1 k, r.1 k));
   }
 
   pub pure_sound : {A : Type 0} (a : A) (Q : A → Type 0) → Q a → Sound (pure a) Q

@@ -1,5 +1,7 @@
 -- Each check that was numbered tests the condition that was asked for.
-use Rattle.std.proofs.Common.{◌≡◌, ◌≢◌, ◌⊎◌, inl, inr, ℕ, zero, suc, ◌+◌, ◌-◌, IsTrue, Bool, true, false, not, ◌||◌, ◌==◌, if◌then◌else◌, List, [], ◌∷◌, ◌++◌, length, ℤ, pos, negsuc, ◌-ℤ◌, int_le, Option, Some, None, option_map, Ok, Err, slice_get, refl, sym, ap, ◌∙◌, subst, true≢false, arith}
+use Rattle.std.proofs.Common.{◌≡◌, ◌≢◌, ◌⊎◌, inl, inr, ℕ, zero, suc, ◌+◌, ◌-◌, IsTrue, Bool, true, false, not, ◌||◌, ◌==◌, if◌then◌else◌}
+use Rattle.std.proofs.Common.{List, [], ◌∷◌, ◌++◌, length, ℤ, pos, negsuc, ◌-ℤ◌, int_le, Option, Some, None, option_map, Ok, Err, slice_get}
+use Rattle.std.proofs.Common.{refl, sym, ap, ◌∙◌, subst, true≢false, arith}
 use Rattle.std.specs.List.{list_all}
 use Rattle.std.specs.Ordering.{int_eq}
 use Rattle.byte_memory.specs.Bytes.{bytes_at}
@@ -21,7 +23,8 @@ use Rattle.checked_tree.proofs.Outcomes.{safe_bind}
 use Rattle.deputy_rules.specs.declared.asked.Asked.{Asked}
 use Rattle.deputy_rules.specs.declared.asked.AskedCond.{AskedCond}
 use Rattle.deputy_rules.specs.declared.asked.AskedCond.TheVariants as asked
-use Rattle.deputy_rules.specs.Numbering.{Numbered, difference, whole, single, at_most, guarded, aligned, non_zero, equal, term, kept, conditioned, with_cond, with_check, numbered}
+use Rattle.deputy_rules.specs.Numbering.{Numbered, difference, whole, single, at_most, guarded, aligned, non_zero, equal, term, kept}
+use Rattle.deputy_rules.specs.Numbering.{conditioned, with_cond, with_check, numbered}
 use Rattle.deputy_types.specs.Options.{and_then}
 use Rattle.deputy_types.proofs.Inversions.{some_then, some_map}
 use Rattle.deputy_rules.specs.SumValues.{part_at, parts_at, PartHasValue, HaveValues}

@@ -1,5 +1,6 @@
 -- Every expression that the rules derive is sound.
-use Rattle.std.proofs.Common.{◌≡◌, ℕ, ◌^◌, ◌<◌, ◌≤◌, nat_lt, IsTrue, Bool, true, false, ◌&&◌, List, [], length, Option, Some, option_map, refl, sym, ap, ◌∙◌, subst, arith}
+use Rattle.std.proofs.Common.{◌≡◌, ℕ, ◌^◌, ◌<◌, ◌≤◌, nat_lt, IsTrue, Bool, true, false, ◌&&◌, List, [], length, Option, Some, option_map}
+use Rattle.std.proofs.Common.{refl, sym, ap, ◌∙◌, subst, arith}
 use Rattle.sd_base.specs.Blocks.{Block}
 use Rattle.c_tree.specs.declared.expressions.Binary.{Binary}
 use Rattle.c_tree.specs.declared.expressions.Unary.{Unary}
@@ -29,7 +30,8 @@ use Rattle.driver_safety.specs.TypeFacts.{HasTypes, HasSlots}
 use Rattle.driver_safety.specs.WrittenNumbers.{words_level, has_words}
 use Rattle.driver_safety.proofs.checks.Sounding.{Sound, then_sound, pure_sound, lift_sound, weaker}
 use Rattle.driver_safety.proofs.checks.TestedChecks.{numbered_tested}
-use Rattle.driver_safety.proofs.expressions.OperatorRules.{number_safe, character_safe, size_safe, integer_sound, pointer_sound, unary_sound, binary_sound, cast_sound}
+use Rattle.driver_safety.proofs.expressions.OperatorRules.{number_safe, character_safe, size_safe, integer_sound, pointer_sound}
+use Rattle.driver_safety.proofs.expressions.OperatorRules.{unary_sound, binary_sound, cast_sound}
 use Rattle.driver_safety.proofs.expressions.PlaceRules.{named_sound, followed_sound, dotted_sound}
 use Rattle.driver_safety.proofs.expressions.PointerRules.{string_sound}
 use Rattle.driver_safety.proofs.expressions.ReadRules.{value_sound}

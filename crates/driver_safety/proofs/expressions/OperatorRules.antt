@@ -1,5 +1,7 @@
 -- Numbers, and the operators on two integers.
-use Rattle.std.proofs.Common.{◌≡◌, ◌≢◌, ◌⊎◌, inl, inr, ℕ, zero, suc, ◌+◌, ◌-◌, ◌%◌, ◌^◌, ◌<◌, ◌≤◌, nat_lt, IsTrue, Bool, true, false, List, [], ◌∷◌, ℤ, pos, negsuc, ◌+ℤ◌, ◌-ℤ◌, ◌*ℤ◌, neg_ℤ, Option, Some, None, Ok, Err, if◌then◌else◌, refl, sym, ap, ◌∙◌, subst, arith}
+use Rattle.std.proofs.Common.{◌≡◌, ◌≢◌, ◌⊎◌, inl, inr, ℕ, zero, suc, ◌+◌, ◌-◌, ◌%◌, ◌^◌, ◌<◌, ◌≤◌, nat_lt, IsTrue, Bool, true, false, List}
+use Rattle.std.proofs.Common.{[], ◌∷◌, ℤ, pos, negsuc, ◌+ℤ◌, ◌-ℤ◌, ◌*ℤ◌, neg_ℤ, Option, Some, None, Ok, Err, if◌then◌else◌, refl, sym, ap}
+use Rattle.std.proofs.Common.{◌∙◌, subst, arith}
 use Rattle.std.specs.Ordering.{int_eq}
 use Rattle.std.proofs.Math.IntN.{*ℤ_comm}
 use Rattle.std.proofs.lemmas.Bool.{lt-ltb}
@@ -30,7 +32,13 @@ use Rattle.deputy_rules.specs.declared.derived.Value.TheVariants as value
 use Rattle.deputy_rules.specs.declared.derived.Whole.{Whole}
 use Rattle.deputy_rules.specs.declared.derived.Written.TheVariants as written
 use Rattle.deputy_rules.specs.Context.{Context}
-use Rattle.deputy_rules.specs.Operators.{number, character, size_constant, suffix_scalar, narrow_scalar, promoted, common, on_one, on_two, shifted, divided, negative_number, negative_by, negative, negation, not_by, minus, on_integer, not_of, dereferenced, unary, integer_key, base_scalar, starless, integer_type, cast_to, cast_by, cast, family_of, compared, joined, integers_compared, addresses_compared, on_integers, pointer_plus, moved_unless_text, compared_with_zero, zero_compared, on_pointer_and_integer, on_integer_and_pointer, alike, pointers_compared, on_pointers, pointer_and_null, null_and_pointer, on_null, on_values, binary, computed as of_type}
+use Rattle.deputy_rules.specs.Operators.{number, character, size_constant, suffix_scalar, narrow_scalar, promoted, common, on_one, on_two}
+use Rattle.deputy_rules.specs.Operators.{shifted, divided, negative_number, negative_by, negative, negation, not_by, minus, on_integer}
+use Rattle.deputy_rules.specs.Operators.{not_of, dereferenced, unary, integer_key, base_scalar, starless, integer_type, cast_to, cast_by}
+use Rattle.deputy_rules.specs.Operators.{cast, family_of, compared, joined, integers_compared, addresses_compared, on_integers}
+use Rattle.deputy_rules.specs.Operators.{pointer_plus, moved_unless_text, compared_with_zero, zero_compared, on_pointer_and_integer}
+use Rattle.deputy_rules.specs.Operators.{on_integer_and_pointer, alike, pointers_compared, on_pointers, pointer_and_null, null_and_pointer}
+use Rattle.deputy_rules.specs.Operators.{on_null, on_values, binary, computed as of_type}
 use Rattle.deputy_rules.specs.Places.{is_unsigned}
 use Rattle.deputy_rules.specs.Sums.{side, side_by, constant_part}
 use Rattle.deputy_rules.specs.SumValues.{part_at, PartHasValue}
@@ -38,7 +46,8 @@ use Rattle.driver_safety.specs.Derivations.{IsWhole, IsPointer, HasType, IsValue
 use Rattle.driver_safety.specs.Goodness.{IsGood}
 use Rattle.driver_safety.specs.TypeFacts.{HasTypes, HasSlots, IsInteger}
 use Rattle.checked_tree.proofs.Conversions.{converted_same}
-use Rattle.driver_safety.proofs.checks.Evaluations.{safe_same, safe_weaker, Pass, pass_none, pass_one, eval-Number, eval-Null, eval-Unary, eval-Binary, eval-Compare, eval-Logical}
+use Rattle.driver_safety.proofs.checks.Evaluations.{safe_same, safe_weaker, Pass, pass_none, pass_one, eval-Number, eval-Null, eval-Unary}
+use Rattle.driver_safety.proofs.checks.Evaluations.{eval-Binary, eval-Compare, eval-Logical}
 use Rattle.checked_tree.proofs.NumberRanges.{of_value, converted_of}
 use Rattle.checked_tree.proofs.Peeking.{eval_peek}
 use Rattle.driver_safety.proofs.checks.Sounding.{Sound, then_sound, pure_sound, lift_sound, if_sound, none_sound, ask_sound, weaker}

@@ -1,5 +1,7 @@
 -- Pointers: addresses, strings, and sums of a pointer and an integer.
-use Rattle.std.proofs.Common.{◌≡◌, ◌≢◌, ℕ, zero, suc, ◌+◌, ◌-◌, ◌*◌, ◌^◌, ◌<◌, ◌≤◌, ◌==◌, nat_lt, IsTrue, Bool, true, false, not, ◌&&◌, ◌||◌, List, [], ◌∷◌, ◌++◌, ℤ, pos, negsuc, ◌+ℤ◌, ◌-ℤ◌, ◌*ℤ◌, neg_ℤ, int_le, Option, Some, None, is_none, option_map, unwrap_or, Ok, slice_get, slice_index_or, if◌then◌else◌, refl, sym, ap, ◌∙◌, subst, arith}
+use Rattle.std.proofs.Common.{◌≡◌, ◌≢◌, ℕ, zero, suc, ◌+◌, ◌-◌, ◌*◌, ◌^◌, ◌<◌, ◌≤◌, ◌==◌, nat_lt, IsTrue, Bool, true, false, not, ◌&&◌}
+use Rattle.std.proofs.Common.{◌||◌, List, [], ◌∷◌, ◌++◌, ℤ, pos, negsuc, ◌+ℤ◌, ◌-ℤ◌, ◌*ℤ◌, neg_ℤ, int_le, Option, Some, None, is_none}
+use Rattle.std.proofs.Common.{option_map, unwrap_or, Ok, slice_get, slice_index_or, if◌then◌else◌, refl, sym, ap, ◌∙◌, subst, arith}
 use Rattle.std.specs.List.{Contains, list_any, list_all}
 use Rattle.std.proofs.Math.IntN.{*ℤ_comm}
 use Rattle.std.proofs.lemmas.Bool.{lt-ltb}
@@ -47,7 +49,9 @@ use Rattle.deputy_rules.specs.declared.derived.Written.TheVariants as written
 use Rattle.deputy_rules.specs.Context.{Context}
 use Rattle.deputy_rules.specs.Deriving.{Deriving, pure, ask}
 use Rattle.deputy_rules.specs.Places.{is_unsigned, moved_sum, indexed}
-use Rattle.deputy_rules.specs.Pointers.{pointer, string_at, string, has_address, addressed_member, addressed, address_at, address_of_place, address_of, step_size, may_fall, may_rise, move_checks, moved_to, moved, is_written, not_ended, text_checks, text_to, text_moved, text_stepped, text_sum, text_second, text_indexed, indexed_by}
+use Rattle.deputy_rules.specs.Pointers.{pointer, string_at, string, has_address, addressed_member, addressed, address_at, address_of_place}
+use Rattle.deputy_rules.specs.Pointers.{address_of, step_size, may_fall, may_rise, move_checks, moved_to, moved, is_written, not_ended}
+use Rattle.deputy_rules.specs.Pointers.{text_checks, text_to, text_moved, text_stepped, text_sum, text_second, text_indexed, indexed_by}
 use Rattle.deputy_rules.specs.Sums.{constant, beyond, side, side_by, constant_of}
 use Rattle.deputy_rules.specs.SumValues.{part_at, parts_at, PartHasValue, HasValue}
 use Rattle.deputy_rules.specs.Values.{size_of}
@@ -57,11 +61,14 @@ use Rattle.driver_safety.specs.Goodness.{IsGood, IsBlock, IsGranted}
 use Rattle.driver_safety.specs.Passing.{IsInside, place_of, clear_at}
 use Rattle.driver_safety.specs.Reaching.{IsOpenAt, IsBetween, Reaches, nowhere, into_text, between}
 use Rattle.driver_safety.specs.TypeFacts.{HasTypes, IsType, IsMemberOf, IsString, key_shape}
-use Rattle.driver_safety.proofs.checks.Evaluations.{safe_weaker, safe_same, Pass, pass_none, pass_one, pass_then, eval-Block, eval-AddressOf, eval-Through, eval-Moved}
+use Rattle.driver_safety.proofs.checks.Evaluations.{safe_weaker, safe_same, Pass, pass_none, pass_one, pass_then, eval-Block}
+use Rattle.driver_safety.proofs.checks.Evaluations.{eval-AddressOf, eval-Through, eval-Moved}
 use Rattle.driver_safety.proofs.checks.Sounding.{Sound, then_sound, pure_sound, lift_sound, if_sound, none_sound, ask_sound, weaker}
-use Rattle.driver_safety.proofs.expressions.PlaceRules.{not_null_sound, below_sound, above_sound, moved_has, in_block, IsInBlock, text_there, text_place, through_text_sound, indexed_sound}
+use Rattle.driver_safety.proofs.expressions.PlaceRules.{not_null_sound, below_sound, above_sound, moved_has, in_block, IsInBlock}
+use Rattle.driver_safety.proofs.expressions.PlaceRules.{text_there, text_place, through_text_sound, indexed_sound}
 use Rattle.driver_safety.proofs.expressions.ReadRules.{member_found, struct_block}
-use Rattle.driver_safety.proofs.expressions.Steps.{times_pos, le_pos, pos_le, pos_same, IsNatural, unsigned_natural, address_is, word_at, Step, forward, backward, step_of, back, HasLanded, lands}
+use Rattle.driver_safety.proofs.expressions.Steps.{times_pos, le_pos, pos_le, pos_same, IsNatural, unsigned_natural, address_is, word_at}
+use Rattle.driver_safety.proofs.expressions.Steps.{Step, forward, backward, step_of, back, HasLanded, lands}
 use Rattle.driver_safety.proofs.memory.Lying.{IsWithin, open_within, member_open}
 
 some_same : {A : Type 0} (a b : A) → ◌≡◌ {A = Option A} (Some a) (Some b) → a ≡ b
@@ -136,6 +143,7 @@ module _ (f : CheckedFn) (ctx : Context) (blocks : List Block) (st : State) (goo
         fits = subst (λ (y : ℤ). Reaches blocks ctx.table.elems ctx.table.structs (key_shape ctx.table key) false y (y +ℤ pos size) y)
             (sym is.1) (between refl b);
         sure = λ g n. zero_not a (omega (arith, from, first)) (sym is.1 ∙ n);
+        ends = λ g. absurd cc;
       }))
 
   -- a member that has an address is open, and is an element of its type
@@ -230,6 +238,7 @@ module _ (f : CheckedFn) (ctx : Context) (blocks : List Block) (st : State) (goo
           below = omega (arith, base, ends, count, some);
         });
         sure = λ e. zero_not b.base (omega (arith, base, first));
+        ends = λ e. (refl, refl);
       })
 
   pub string_sound : (k : ℕ) (d : Derived) → string ctx k ≡ Some d → IsDerived f ctx blocks st d
@@ -433,4 +442,5 @@ module _ (f : CheckedFn) (ctx : Context) (blocks : List Block) (st : State) (goo
         high = here.high;
         fits = subst (λ (y : ℤ). Reaches blocks ctx.table.elems ctx.table.structs own false here.lo here.hi y) m.is m.fits;
         sure = λ g. zero_not m.at m.some;
+        ends = λ g. absurd cc;
       }))))))

@@ -1,5 +1,7 @@
 -- Reading: the value of a local, of a place and of an array.
-use Rattle.std.proofs.Common.{◌≡◌, ◌≢◌, ℕ, zero, suc, ◌+◌, ◌-◌, ◌*◌, ◌%◌, ◌^◌, ◌<◌, ◌≤◌, nat_lt, IsTrue, Bool, true, false, List, [], ◌∷◌, All, ℤ, pos, ◌+ℤ◌, ◌*ℤ◌, Option, Some, None, option_map, unwrap_or, Ok, slice_get, refl, sym, ap, ◌∙◌, subst, arith}
+use Rattle.std.proofs.Common.{◌≡◌, ◌≢◌, ℕ, zero, suc, ◌+◌, ◌-◌, ◌*◌, ◌%◌, ◌^◌, ◌<◌, ◌≤◌, nat_lt, IsTrue, Bool, true, false, List, [], ◌∷◌}
+use Rattle.std.proofs.Common.{All, ℤ, pos, ◌+ℤ◌, ◌*ℤ◌, Option, Some, None, option_map, unwrap_or, Ok, slice_get, refl, sym, ap, ◌∙◌, subst}
+use Rattle.std.proofs.Common.{arith}
 use Rattle.std.proofs.Math.IntN.{*ℤ_comm}
 use Rattle.std.proofs.lemmas.Bool.{lt-ltb}
 use Rattle.std.proofs.lemmas.Int.{ints}
@@ -54,13 +56,18 @@ use Rattle.deputy_rules.specs.Context.{Context, slot_shape}
 use Rattle.deputy_rules.specs.NameValues.{local_at, IsNumber, IsNamed, IsNamedBase, AreNamed, IsStructPlace}
 use Rattle.deputy_rules.specs.Sums.{atom, side, with_part}
 use Rattle.deputy_rules.specs.SumValues.{HasValue}
-use Rattle.deputy_rules.specs.Values.{address, integer, pointer_to, bounded_pointer, hidden_pointer, local_pointer, low_sum, high_sum, edge_sum, slot_sum, local_value, slot_value, source_value, element_value, counted_pointer, text_pointer, member_value as value_of_member, array_value, value_of, of_struct, of_slots, container, loaded_as, size_of, is_nullterm}
+use Rattle.deputy_rules.specs.Values.{address, integer, pointer_to, bounded_pointer, hidden_pointer, local_pointer, low_sum, high_sum}
+use Rattle.deputy_rules.specs.Values.{edge_sum, slot_sum, local_value, slot_value, source_value, element_value, counted_pointer}
+use Rattle.deputy_rules.specs.Values.{text_pointer, member_value as value_of_member, array_value, value_of, of_struct, of_slots, container}
+use Rattle.deputy_rules.specs.Values.{loaded_as, size_of, is_nullterm}
 use Rattle.deputy_rules.proofs.NamesHave.{slot_edge, member_edge, load_is, word_below}
 use Rattle.deputy_rules.proofs.SumsHave.{has_atom, has_bare, has_with_part, atom_is, atom_reads}
-use Rattle.driver_safety.specs.Derivations.{IsWhole, IsPointer, IsPlace, IsArray, IsElementAt, IsStructAt, IsMemberAt, LiesAt, IsValue, IsDerived}
+use Rattle.driver_safety.specs.Derivations.{IsWhole, IsPointer, IsPlace, IsArray, IsElementAt, IsStructAt, IsMemberAt, LiesAt, IsValue}
+use Rattle.driver_safety.specs.Derivations.{IsDerived}
 use Rattle.driver_safety.specs.Goodness.{IsGood, IsBlock, SlotHolds, SlotFits, FitsHidden}
 use Rattle.driver_safety.specs.Reaching.{IsOpenAt, IsBetween, Reaches, nowhere, into_text, between}
-use Rattle.driver_safety.specs.TypeFacts.{HasTypes, HasSlots, IsInteger, IsType, IsText, IsTextPointer, IsSlotShape, IsDeclared, IsAnnotated, IsMemberOf, IsSibling, NamesSiblings, ShapeNamesSiblings, IsBaseOf, key_shape}
+use Rattle.driver_safety.specs.TypeFacts.{HasTypes, HasSlots, IsInteger, IsType, IsText, IsTextPointer, IsSlotShape, IsDeclared}
+use Rattle.driver_safety.specs.TypeFacts.{IsAnnotated, IsMemberOf, IsSibling, NamesSiblings, ShapeNamesSiblings, IsBaseOf, key_shape}
 use Rattle.driver_safety.proofs.checks.Evaluations.{safe_same, safe_weaker, eval-Local, eval-Load, eval-AddressOf}
 use Rattle.driver_safety.proofs.expressions.FitsAndReaches.{reaches, other_bounds}
 use Rattle.driver_safety.proofs.memory.Lying.{IsWithin, open_within, inside_block, below_block, open_fits, member_within, member_fits}
@@ -117,10 +124,10 @@ module _ (f : CheckedFn) (ctx : Context) (blocks : List Block) (st : State) wher
   -- an evaluated pointer expression
   pub pointer_has : (e : CheckedExpr) (key : Element) (nullterm : Bool) (low high : Sum) (v lo hi : ℤ) → eval [] f st e ≡ Ok v
       → IsTrue (is_word v) → IsType ctx.table key
-      → (nullterm ≡ true → key ≡ element.Int U8) → HasValue st low lo → HasValue st high hi
+      → (nullterm ≡ true → key ≡ element.Int U8) → (nullterm ≡ true → (lo ≡ v) × (hi ≡ v)) → HasValue st low lo → HasValue st high hi
       → Reaches blocks ctx.table.elems ctx.table.structs (key_shape ctx.table key) nullterm lo hi v → IsPointer ctx blocks st
       (pointed_as e key nullterm low high) v
-  pointer_has e key nullterm low high v lo hi h word type text l u fits = record {
+  pointer_has e key nullterm low high v lo hi h word type text ends l u fits = record {
     type_is = type;
     text = text;
     word = word;
@@ -131,6 +138,7 @@ module _ (f : CheckedFn) (ctx : Context) (blocks : List Block) (st : State) wher
     high = u;
     fits = fits;
     sure = λ e. absurd cc;
+    ends = ends;
   }
 
   module _ (good : IsGood ctx blocks st) (types : HasTypes ctx.table) where
@@ -155,6 +163,7 @@ module _ (f : CheckedFn) (ctx : Context) (blocks : List Block) (st : State) wher
         (pointer_has (form.Local slot) r.0 false (edge_sum ctx of_slots (atom (form.Local slot)) lo)
         (edge_sum ctx of_slots (atom (form.Local slot)) hi) x
         (edge_value (local_at st) x lo) (edge_value (local_at st) x hi) (eval-Local f st slot) holds.0 known.1 (λ e. absurd cc)
+        (λ e. absurd cc)
         (slot_edge st good.frame.values ctx (atom (form.Local slot)) x lo (own slot)) (slot_edge st good.frame.values ctx
         (atom (form.Local slot)) x hi (own slot))
         (reaches blocks ctx.table.elems ctx.table.structs elem (key_shape ctx.table r.0) known.0 false (edge_value (local_at st) x lo)
@@ -167,7 +176,7 @@ module _ (f : CheckedFn) (ctx : Context) (blocks : List Block) (st : State) wher
         let fits = subst (FitsHidden ctx blocks st slot elem) o.1 holds.1 in
         subst (IsValue f ctx blocks st) r.2 (safe_same _ _ _ (eval-Local f st slot)
         (pointer_has (form.Local slot) r.0 false (slot_sum o.0) (slot_sum (o.0 + 1)) x (local_at st o.0) (local_at st (o.0 + 1))
-        (eval-Local f st slot) holds.0 known.1 (λ e. absurd cc)
+        (eval-Local f st slot) holds.0 known.1 (λ e. absurd cc) (λ e. absurd cc)
         (slot_has o.0) (slot_has (o.0 + 1))
         (reaches blocks ctx.table.elems ctx.table.structs elem (key_shape ctx.table r.0) known.0 false (local_at st o.0)
         (local_at st (o.0 + 1)) x fits)))
@@ -177,7 +186,7 @@ module _ (f : CheckedFn) (ctx : Context) (blocks : List Block) (st : State) wher
         let x : ℤ = local_at st slot in
         subst (IsValue f ctx blocks st) r.2 (safe_same _ _ _ (eval-Local f st slot)
         (pointer_has (form.Local slot) r.0 true (atom (form.Local slot)) (atom (form.Local slot)) x x x (eval-Local f st slot) holds.0
-        known.1 (λ e. text r.0 r.1) (own slot) (own slot)
+        known.1 (λ e. text r.0 r.1) (λ e. (refl, refl)) (own slot) (own slot)
         (other_bounds blocks ctx.table.elems ctx.table.structs (key_shape ctx.table r.0) (pos 0) (pos 0) x x x
         (reaches blocks ctx.table.elems ctx.table.structs elem (key_shape ctx.table r.0) known.0 true (pos 0) (pos 0) x holds.1))))
 
@@ -310,7 +319,8 @@ module _ (f : CheckedFn) (ctx : Context) (blocks : List Block) (st : State) wher
           (λ z here. counts own r.0 n k z is r.1 here)
           (λ x seen c.
           let at : HasValue st (atom e) x = has_atom st e x (eval_peek [] f st e x seen) (word_value x c.0) in
-          pointer_has e r.0 false (atom e) high x x (x +ℤ (k *ℤ pos (size_of ctx r.0))) seen c.0 known.1 (λ g. absurd cc) at
+          pointer_has e r.0 false (atom e) high x x (x +ℤ (k *ℤ pos (size_of ctx r.0))) seen c.0 known.1 (λ g. absurd cc)
+          (λ g. absurd cc) at
           (has_with_part st (atom e) (Constant k (pos (size_of ctx r.0))) x (k *ℤ pos (size_of ctx r.0)) at tt refl) c.1))
 
       -- text
@@ -352,7 +362,7 @@ module _ (f : CheckedFn) (ctx : Context) (blocks : List Block) (st : State) wher
           (λ z here. texts r.0 n z r.1 here)
           (λ x seen c.
           let at : HasValue st (atom e) x = has_atom st e x (eval_peek [] f st e x seen) (word_value x c.0) in
-          pointer_has e r.0 true (atom e) (atom e) x x x seen c.0 known.1 (λ g. c.2) at at c.1))
+          pointer_has e r.0 true (atom e) (atom e) x x x seen c.0 known.1 (λ g. c.2) (λ g. (refl, refl)) at at c.1))
 
       integer_here : (s : Scalar) (z : ℤ) → IsHere (element.Int s) z → (n : ℕ) × (load st.memory s z ≡ Ok (converted s (pos n)))
           × (s ≢ Void)
@@ -518,7 +528,7 @@ module _ (f : CheckedFn) (ctx : Context) (blocks : List Block) (st : State) wher
           d (pointer_at elem bounds.Nullterm e)
           (λ y seen c.
           let at : HasValue st (atom l) y = has_atom st l y (eval_peek [] f st l y seen) (word_value y c.2) in
-          pointer_has l r.0 true (atom l) (atom l) y y y seen c.2 known.1 (λ g. n r.0 r.1) at at
+          pointer_has l r.0 true (atom l) (atom l) y y y seen c.2 known.1 (λ g. n r.0 r.1) (λ g. (refl, refl)) at at
           (other_bounds blocks ctx.table.elems ctx.table.structs (key_shape ctx.table r.0) (pos 0) (pos 0) y y y
           (reaches blocks ctx.table.elems ctx.table.structs elem (key_shape ctx.table r.0) known.0 true (pos 0) (pos 0) y c.3))))
       bounds_is elem (bounds.Within lo hi) v e n d h =
@@ -542,6 +552,7 @@ module _ (f : CheckedFn) (ctx : Context) (blocks : List Block) (st : State) wher
           } in
           let siblings = subst (λ (u : StructShape). NamesSiblings u lo × NamesSiblings u hi) (sym (same_struct c.0 at)) names in
           pointer_has l r.0 false low high y (edge_value sibling y lo) (edge_value sibling y hi) seen c.2 known'.1 (λ g. absurd cc)
+          (λ g. absurd cc)
           (member_edge st ctx (container place) at.struct_at s at.structure struct (atom l) y lo (edge_named s at.struct_at at.lies
           at.structure at.structure_is lo siblings.0) own)
           (member_edge st ctx (container place) at.struct_at s at.structure struct (atom l) y hi (edge_named s at.struct_at at.lies
@@ -637,6 +648,7 @@ module _ (f : CheckedFn) (ctx : Context) (blocks : List Block) (st : State) wher
                 (sym bytes)) (is.elements r.0 r.1);
           });
           sure = λ g n. zero_not is.address (omega (arith, first, from)) (sym is.is ∙ n);
+          ends = λ g. absurd cc;
         }))
       where
         zero_not : (a : ℕ) → 0 < a → pos a ≡ pos 0 → ⊥

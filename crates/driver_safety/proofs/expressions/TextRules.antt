@@ -1,5 +1,7 @@
 -- Pointers to text: the next byte, where this one is not 0.
-use Rattle.std.proofs.Common.{◌≡◌, ◌≢◌, ℕ, zero, suc, ◌+◌, ◌-◌, ◌*◌, ◌^◌, ◌<◌, ◌≤◌, ◌==◌, nat_lt, IsTrue, Bool, true, false, not, ◌&&◌, ◌||◌, List, [], ◌∷◌, ◌++◌, take, drop, get_or, ℤ, pos, ◌+ℤ◌, ◌*ℤ◌, Option, Some, None, Ok, slice_index_or, if◌then◌else◌, refl, sym, ap, ◌∙◌, subst, true≢false, arith}
+use Rattle.std.proofs.Common.{◌≡◌, ◌≢◌, ℕ, zero, suc, ◌+◌, ◌-◌, ◌*◌, ◌^◌, ◌<◌, ◌≤◌, ◌==◌, nat_lt, IsTrue, Bool, true, false, not, ◌&&◌}
+use Rattle.std.proofs.Common.{◌||◌, List, [], ◌∷◌, ◌++◌, take, drop, get_or, ℤ, pos, ◌+ℤ◌, ◌*ℤ◌, Option, Some, None, Ok, slice_index_or}
+use Rattle.std.proofs.Common.{if◌then◌else◌, refl, sym, ap, ◌∙◌, subst, true≢false, arith}
 use Rattle.std.specs.List.{list_all}
 use Rattle.std.proofs.Math.IntN.{*ℤ_comm}
 use Rattle.std.proofs.lemmas.Bool.{lt-ltb}
@@ -34,7 +36,8 @@ use Rattle.deputy_rules.specs.declared.derived.Written.TheVariants as written
 use Rattle.deputy_rules.specs.Context.{Context}
 use Rattle.deputy_rules.specs.Deriving.{Deriving, pure, ask}
 use Rattle.deputy_rules.specs.Places.{moved_sum}
-use Rattle.deputy_rules.specs.Pointers.{is_written, not_ended, text_checks, text_to, text_moved, text_stepped, text_sum, text_second, text_indexed, indexed_by}
+use Rattle.deputy_rules.specs.Pointers.{is_written, not_ended, text_checks, text_to, text_moved, text_stepped, text_sum, text_second}
+use Rattle.deputy_rules.specs.Pointers.{text_indexed, indexed_by}
 use Rattle.deputy_rules.specs.Sums.{side, side_by, constant_of}
 use Rattle.deputy_rules.specs.SumValues.{part_at, parts_at, HasValue}
 use Rattle.deputy_rules.specs.Values.{size_of}
@@ -231,6 +234,7 @@ module _ (f : CheckedFn) (ctx : Context) (blocks : List Block) (st : State) (goo
               high = has;
               fits = into_text refl t;
               sure = λ e n. zero_not t.at (omega (arith, first, from)) (sym t.is ∙ n);
+              ends = λ e. (refl, refl);
             }))))),
       )))
 

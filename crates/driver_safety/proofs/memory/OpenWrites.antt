@@ -1,5 +1,7 @@
 -- A write to an open place keeps what its element holds: no annotation, no tag and no union speaks of it.
-use Rattle.std.proofs.Common.{◌≡◌, ◌≢◌, ◌⊎◌, inl, inr, ℕ, zero, suc, ◌+◌, ◌*◌, ◌≤◌, ◌<◌, ◌==◌, Bool, true, false, not, ◌&&◌, ◌||◌, List, [], ◌∷◌, length, ℤ, pos, Option, Some, None, is_none, option_map, unwrap_or, slice_get, refl, sym, ap, ◌∙◌, subst, true≢false, arith}
+use Rattle.std.proofs.Common.{◌≡◌, ◌≢◌, ◌⊎◌, inl, inr, ℕ, zero, suc, ◌+◌, ◌*◌, ◌≤◌, ◌<◌, ◌==◌, Bool, true, false, not, ◌&&◌, ◌||◌, List, []}
+use Rattle.std.proofs.Common.{◌∷◌, length, ℤ, pos, Option, Some, None, is_none, option_map, unwrap_or, slice_get, refl, sym, ap, ◌∙◌, subst}
+use Rattle.std.proofs.Common.{true≢false, arith}
 use Rattle.std.specs.List.{list_any}
 use Rattle.std.specs.Ordering.{int_eq}
 use Rattle.std.proofs.lemmas.Bool.Decides.{Decides-eqb}
@@ -15,12 +17,14 @@ use Rattle.checked_tree.specs.declared.shapes.StructShape.{StructShape}
 use Rattle.checked_tree.specs.declared.shapes.UnionShape.{UnionShape}
 use Rattle.checked_tree.specs.Edges.{edge_value}
 use Rattle.layout_laws.proofs.ZeroFits.{LiesIn}
-use Rattle.deputy_types.specs.Fitting.{Fits, FitsBounds, HoldsFitting, BytesFit, Part, whole, member, is_any, is_open, is_used, place_value, member_value, shape_size}
+use Rattle.deputy_types.specs.Fitting.{Fits, FitsBounds, HoldsFitting, BytesFit, Part, whole, member, is_any, is_open, is_used, place_value}
+use Rattle.deputy_types.specs.Fitting.{member_value, shape_size}
 use Rattle.deputy_types.specs.Table.{Table, bounds_name, edge_names, has_names, shape_names}
 use Rattle.driver_safety.specs.StructPlaces.{IsLeaf, AreTidy}
 use Rattle.driver_safety.specs.TypeFacts.{HasTypes, IsMemberOf}
 use Rattle.driver_safety.proofs.assignments.SiblingRules.{Agrees, TermsAgree, BaseAgrees, EdgeAgrees, same_edge}
-use Rattle.driver_safety.proofs.memory.Apart.{Below, below, IsElement, address_of, bytes_of, Related, same, first, second, union, of_siblings, within, holder}
+use Rattle.driver_safety.proofs.memory.Apart.{Below, below, IsElement, address_of, bytes_of, Related, same, first, second, union}
+use Rattle.driver_safety.proofs.memory.Apart.{of_siblings, within, holder}
 use Rattle.driver_safety.proofs.memory.Lying.{any_part}
 use Rattle.driver_safety.proofs.memory.Stores.{StructFits, unreached, write_keeps, own_stays}
 use Rattle.driver_safety.proofs.memory.Writes.{all_some}

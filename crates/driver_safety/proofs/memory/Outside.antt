@@ -1,5 +1,6 @@
 -- A write that touches no byte of an element leaves what it holds.
-use Rattle.std.proofs.Common.{◌≡◌, ◌⊎◌, inl, inr, ℕ, zero, suc, ◌+◌, ◌*◌, ◌≤◌, ◌<◌, Bool, true, List, length, get_or, ℤ, pos, Option, Some, None, option_map, unwrap_or, slice_get, slice_index_or, refl, sym, ap, ◌∙◌, subst, arith}
+use Rattle.std.proofs.Common.{◌≡◌, ◌⊎◌, inl, inr, ℕ, zero, suc, ◌+◌, ◌*◌, ◌≤◌, ◌<◌, Bool, true, List, length, get_or, ℤ, pos, Option, Some}
+use Rattle.std.proofs.Common.{None, option_map, unwrap_or, slice_get, slice_index_or, refl, sym, ap, ◌∙◌, subst, arith}
 use Rattle.std.specs.Ordering.{int_eq}
 use Rattle.sd_base.specs.Blocks.{Block}
 use Rattle.byte_memory.specs.Bytes.{little_endian, bytes_at, overwritten}
@@ -11,7 +12,8 @@ use Rattle.checked_tree.specs.declared.shapes.Shape.{Shape}
 use Rattle.checked_tree.specs.declared.shapes.Shape.TheVariants as shape
 use Rattle.checked_tree.specs.declared.shapes.StructShape.{StructShape}
 use Rattle.layout_laws.proofs.ZeroFits.{LiesIn, lies_in}
-use Rattle.deputy_types.specs.Fitting.{shape_size, Part, whole, member, is_any, AreNested, FitsBounds, HoldsFitting, BytesFit, place_value, member_value, is_used}
+use Rattle.deputy_types.specs.Fitting.{shape_size, Part, whole, member, is_any, AreNested, FitsBounds, HoldsFitting, BytesFit, place_value}
+use Rattle.deputy_types.specs.Fitting.{member_value, is_used}
 use Rattle.driver_safety.proofs.memory.Stores.{unreached}
 
 fun_ext : {A B : Type 0} (f g : A → B) → ((a : A) → f a ≡ g a) → f ≡ g

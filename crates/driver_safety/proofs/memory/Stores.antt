@@ -1,5 +1,6 @@
 -- A write to one member of a struct place leaves every other struct place of its element as it was.
-use Rattle.std.proofs.Common.{◌≡◌, ◌≢◌, ◌⊎◌, inl, inr, ℕ, zero, suc, ◌+◌, ◌*◌, ◌≤◌, ◌<◌, ◌==◌, Bool, true, false, List, length, ℤ, pos, Option, Some, None, option_map, unwrap_or, slice_get, refl, sym, ap, ◌∙◌, subst, true≢false, arith}
+use Rattle.std.proofs.Common.{◌≡◌, ◌≢◌, ◌⊎◌, inl, inr, ℕ, zero, suc, ◌+◌, ◌*◌, ◌≤◌, ◌<◌, ◌==◌, Bool, true, false, List, length, ℤ, pos}
+use Rattle.std.proofs.Common.{Option, Some, None, option_map, unwrap_or, slice_get, refl, sym, ap, ◌∙◌, subst, true≢false, arith}
 use Rattle.std.specs.Ordering.{int_eq}
 use Rattle.std.proofs.lemmas.Bool.Decides.{Decides-eqb}
 use Rattle.sd_base.specs.Blocks.{Block}
@@ -15,7 +16,8 @@ use Rattle.checked_tree.specs.Numbers.{converted, scalar_size}
 use Rattle.layout_laws.proofs.ZeroFits.{LiesIn}
 use Rattle.deputy_types.specs.Fitting.{shape_size, Part, is_any, FitsBounds, HoldsFitting, BytesFit, place_value, member_value, is_used}
 use Rattle.driver_safety.specs.StructPlaces.{IsLeaf, AreTidy}
-use Rattle.driver_safety.proofs.memory.Apart.{Below, below, IsElement, address_of, bytes_of, Related, same, first, second, union, related, of_siblings, within, holder}
+use Rattle.driver_safety.proofs.memory.Apart.{Below, below, IsElement, address_of, bytes_of, Related, same, first, second, union, related}
+use Rattle.driver_safety.proofs.memory.Apart.{of_siblings, within, holder}
 
 fun_ext : {A B : Type 0} (f g : A → B) → ((a : A) → f a ≡ g a) → f ≡ g
 fun_ext f g h = λ i a. h a i

@@ -1,5 +1,7 @@
 -- A union whose bytes become 0: each arm that a tag may select holds 0 then, and all other members keep what they hold.
-use Rattle.std.proofs.Common.{◌≡◌, ◌≢◌, ◌⊎◌, inl, inr, ℕ, zero, suc, ◌+◌, ◌*◌, ◌≤◌, ◌<◌, ◌==◌, IsTrue, Bool, true, false, List, [], ◌∷◌, length, replicate, ℤ, pos, Option, Some, None, option_map, unwrap_or, slice_get, refl, sym, ap, ◌∙◌, subst, true≢false, arith}
+use Rattle.std.proofs.Common.{◌≡◌, ◌≢◌, ◌⊎◌, inl, inr, ℕ, zero, suc, ◌+◌, ◌*◌, ◌≤◌, ◌<◌, ◌==◌, IsTrue, Bool, true, false, List, [], ◌∷◌}
+use Rattle.std.proofs.Common.{length, replicate, ℤ, pos, Option, Some, None, option_map, unwrap_or, slice_get, refl, sym, ap, ◌∙◌, subst}
+use Rattle.std.proofs.Common.{true≢false, arith}
 use Rattle.std.specs.List.{list_all}
 use Rattle.std.specs.Ordering.{int_eq}
 use Rattle.std.proofs.lemmas.Bool.Decides.{Decides-eqb}
@@ -23,7 +25,8 @@ use Rattle.driver_safety.specs.StructPlaces.{IsLeaf, SameUnion}
 use Rattle.driver_safety.specs.TypeFacts.{HasTypes, IsFilled, IsMemberOf, IsArmIn, IsSibling, IsTag, ShapeNamesSiblings}
 use Rattle.driver_safety.proofs.assignments.MemberNames.{names_same}
 use Rattle.driver_safety.proofs.assignments.TagRules.{clear_zero}
-use Rattle.driver_safety.proofs.memory.Apart.{Below, below, IsElement, address_of, bytes_of, Related, same, first, second, union, of_siblings, within}
+use Rattle.driver_safety.proofs.memory.Apart.{Below, below, IsElement, address_of, bytes_of, Related, same, first, second, union}
+use Rattle.driver_safety.proofs.memory.Apart.{of_siblings, within}
 use Rattle.driver_safety.proofs.memory.MemberWrites.{nameless_keeps, null_holds}
 use Rattle.driver_safety.proofs.memory.Stores.{StructFits, unreached, write_keeps}
 use Rattle.driver_safety.proofs.memory.Writes.{all_some}

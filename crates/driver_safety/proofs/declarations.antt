@@ -1,0 +1,12 @@
+pub mod DeclaredShapes
+pub mod SlotNames
+pub mod FunctionSlots
+pub mod StructMembers
+pub mod ConstantTypes
+pub mod StructFacts
+pub mod FoundTypes
+pub mod TableFacts
+pub mod FunctionHeads
+pub mod Declared
+pub mod ShortExpressions
+pub mod GrammarArms

@@ -4,3 +4,4 @@ pub mod Evaluations
 pub mod NumberedChecks
 pub mod TestedChecks
 pub mod LineRules
+pub mod GivenOutcomes

@@ -10,3 +10,4 @@ pub mod FunctionHeads
 pub mod Declared
 pub mod ShortExpressions
 pub mod GrammarArms
+pub mod FewItems

@@ -10,3 +10,4 @@ pub mod MemberWrites
 pub mod ZeroWrites
 pub mod Loading
 pub mod Granting
+pub mod CopyingIn

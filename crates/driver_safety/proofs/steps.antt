@@ -5,3 +5,7 @@ pub mod SimpleRuns
 pub mod Answers
 pub mod UnitSteps
 pub mod Starting
+pub mod StayingInside
+pub mod EachRun
+pub mod Asks
+pub mod FirstLoaded

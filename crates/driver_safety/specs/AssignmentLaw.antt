@@ -1,7 +1,7 @@
 -- The law of assignments: what is assigned fits the type of its place, each pointer whose annotation names the place still fits, with the
 -- new value, a tag keeps its value or
 -- its union is clear, and a text keeps its end.
-use Rattle.std.specs.Prelude.{◌≡◌, IsTrue, ℕ, List, [], Some, length}
+use Rattle.std.specs.Prelude.{◌≡◌, IsTrue, List, [], Some, length}
 use Rattle.sd_base.specs.Blocks.{Block}
 use Rattle.checked_tree.specs.declared.statements.CheckedStmt.{CheckedStmt, out-CheckedStmt}
 use Rattle.checked_tree.specs.declared.units.CheckedFn.{CheckedFn}

@@ -1,6 +1,6 @@
 -- What the laws take of a text's types and of a function's slots is so: of each text whose types are laid out and whose unions have arms,
 -- and of each function whose declarations stand.
-use Rattle.std.specs.Prelude.{◌≡◌, ℕ, ◌-◌, ◌^◌, ◌<◌, List, length, Some, Ok}
+use Rattle.std.specs.Prelude.{◌≡◌, ℕ, ◌-◌, ◌^◌, ◌<◌, length, Some, Ok}
 use Rattle.c_tree.specs.declared.items.Function.{Function}
 use Rattle.c_tree.specs.declared.items.Unit.{Unit as TextUnit}
 use Rattle.c_tree.specs.Slots.{locals_of}

@@ -1,6 +1,6 @@
 -- What the rules' expressions are in a good state: an integer in the range of its type, a pointer that reaches what its bounds say, a place
 -- in a granted block.
-use Rattle.std.specs.Prelude.{◌≡◌, ◌≢◌, IsTrue, ℕ, ◌+◌, ◌*◌, ◌<◌, ◌≤◌, Bool, true, false, List, [], ℤ, pos, Option, Some, None, slice_get}
+use Rattle.std.specs.Prelude.{◌≡◌, ◌≢◌, IsTrue, ℕ, ◌+◌, ◌*◌, ◌<◌, ◌≤◌, true, false, List, [], ℤ, pos, Some, slice_get}
 use Rattle.std.specs.Prelude.{Ok}
 use Rattle.std.specs.List.{Contains}
 use Rattle.sd_base.specs.Blocks.{Block, block_end}
@@ -8,7 +8,6 @@ use Rattle.checked_tree.specs.declared.expressions.CheckedExpr.{CheckedExpr}
 use Rattle.checked_tree.specs.declared.shapes.Member.{Member}
 use Rattle.checked_tree.specs.declared.shapes.Scalar.{Scalar}
 use Rattle.checked_tree.specs.declared.shapes.Scalar.TheVariants.{U8}
-use Rattle.checked_tree.specs.declared.shapes.Shape.{Shape}
 use Rattle.checked_tree.specs.declared.shapes.Shape.TheVariants as shape
 use Rattle.checked_tree.specs.declared.shapes.StructShape.{StructShape}
 use Rattle.checked_tree.specs.declared.units.CheckedFn.{CheckedFn}
@@ -18,7 +17,7 @@ use Rattle.checked_tree.specs.Numbers.{is_of, is_word}
 use Rattle.checked_tree.specs.Outcome.{Safe}
 use Rattle.deputy_types.specs.declared.element.Element.{Element}
 use Rattle.deputy_types.specs.declared.element.Element.TheVariants as element
-use Rattle.deputy_types.specs.Fitting.{IsInText, Part as Lies, is_open, is_used}
+use Rattle.deputy_types.specs.Fitting.{IsInText, is_used}
 use Rattle.deputy_rules.specs.declared.derived.ArrayPlace.{ArrayPlace}
 use Rattle.deputy_rules.specs.declared.derived.Derived.{Derived}
 use Rattle.deputy_rules.specs.declared.derived.Derived.TheVariants as derived

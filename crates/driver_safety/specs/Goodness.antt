@@ -1,7 +1,7 @@
 -- A good state of a function's frame and of the memory: each local is in the range of its type, and each pointer, in a slot and in memory,
 -- fits by the names of its own
 -- function or struct. The frame and the memory do not speak of each other; both read the granted blocks alone.
-use Rattle.std.specs.Prelude.{◌≡◌, ◌⊎◌, IsTrue, ℕ, ◌+◌, ◌-◌, ◌*◌, ◌<◌, ◌≤◌, Bool, true, false, List, All, ℤ, pos, Option, Some, None}
+use Rattle.std.specs.Prelude.{◌≡◌, ◌⊎◌, IsTrue, ℕ, ◌+◌, ◌-◌, ◌*◌, ◌<◌, ◌≤◌, true, false, List, All, Option, Some, None}
 use Rattle.std.specs.Prelude.{length, slice_get, slice_index_or}
 use Rattle.std.specs.List.{Contains}
 use Rattle.sd_base.specs.Blocks.{Block, block_end}

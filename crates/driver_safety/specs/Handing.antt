@@ -1,5 +1,5 @@
 -- What a parameter or a result of a shape takes: an integer in the range of its type, or a pointer that fits by these names.
-use Rattle.std.specs.Prelude.{◌≡◌, IsTrue, ℕ, Bool, true, false, List, [], ◌∷◌, All, ℤ, pos, Option, Some, None, slice_get}
+use Rattle.std.specs.Prelude.{◌≡◌, IsTrue, ℕ, true, false, List, [], ◌∷◌, All, ℤ, pos, Option, Some, None, slice_get}
 use Rattle.sd_base.specs.Blocks.{Block}
 use Rattle.c_tree.specs.declared.expressions.Expr.{Expr}
 use Rattle.checked_tree.specs.declared.shapes.Bounds.{Bounds}

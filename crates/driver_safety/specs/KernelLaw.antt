@@ -1,6 +1,6 @@
 -- The law of the kernel's calls: an accepted driver asks, and its state stays; and the local that takes the answer keeps its frame good.
 -- The kernel answers a number, which a local of any integer type takes; or, to `kalloc`, null or a block of new elements, which is granted.
-use Rattle.std.specs.Prelude.{◌≡◌, ◌⊎◌, IsTrue, ℕ, ◌<◌, Bool, true, false, List, [], ◌∷◌, Option, Some, None}
+use Rattle.std.specs.Prelude.{◌≡◌, ◌⊎◌, IsTrue, ℕ, ◌<◌, false, List, [], ◌∷◌, Option, Some, None}
 use Rattle.std.specs.List.{Contains}
 use Rattle.sd_base.specs.Blocks.{Block, block_end}
 use Rattle.sd_base.specs.declared.actors.Fat.{Fat}
@@ -8,17 +8,13 @@ use Rattle.c_tree.specs.declared.expressions.Expr.{Expr}
 use Rattle.c_tree.specs.Slots.{hidden_slot}
 use Rattle.checked_tree.specs.declared.kernel.Answer.{Answer}
 use Rattle.checked_tree.specs.declared.kernel.Answer.TheVariants as answer
-use Rattle.checked_tree.specs.declared.kernel.KernelCall.{KernelCall}
 use Rattle.checked_tree.specs.declared.shapes.Bounds.TheVariants as bounds
 use Rattle.checked_tree.specs.declared.shapes.Shape.TheVariants as shape
-use Rattle.checked_tree.specs.declared.statements.CheckedStmt.{CheckedStmt, out-CheckedStmt}
 use Rattle.checked_tree.specs.declared.statements.Target.{Target}
 use Rattle.checked_tree.specs.declared.statements.Target.TheVariants as target
 use Rattle.checked_tree.specs.declared.units.CheckedFn.{CheckedFn}
-use Rattle.checked_tree.specs.Act.{act, Asks}
 use Rattle.checked_tree.specs.Conditions.{State}
 use Rattle.checked_tree.specs.Operands.{null}
-use Rattle.checked_tree.specs.Outcome.{Safe}
 use Rattle.checked_tree.specs.Step.{answer_set}
 use Rattle.deputy_rules.specs.Calls.{is_named_slot, freed_value}
 use Rattle.deputy_rules.specs.Context.{Context, slot_shape}
@@ -28,7 +24,6 @@ use Rattle.deputy_rules.specs.declared.handed.Handed.{Handed}
 use Rattle.deputy_rules.specs.Expressions.{derive}
 use Rattle.deputy_rules.specs.Values.{value_of}
 use Rattle.deputy_types.specs.Options.{and_then}
-use Rattle.deputy_types.specs.Table.{Table}
 use Rattle.driver_safety.specs.Goodness.{IsGood}
 use Rattle.driver_safety.specs.LightHandling.{IsLightHanded, HandsLightly}
 use Rattle.driver_safety.specs.TypeFacts.{HasTypes, HasSlots}

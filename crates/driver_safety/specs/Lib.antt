@@ -14,9 +14,14 @@ pub mod CallLaw
 pub mod EntryLaw
 pub mod ResultLaw
 pub mod UnionArms
+pub mod Asking
 pub mod KernelLaw
 pub mod DeclarationLaws
 pub mod Activities
 pub mod StepLaw
 pub mod LoadLaw
 pub mod GrantLaw
+pub mod OutsideLaw
+pub mod RunLaw
+pub mod AskLaw
+pub mod FirstDriver

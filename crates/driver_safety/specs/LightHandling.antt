@@ -1,5 +1,5 @@
 -- Pointers whose bounds are sums that stay below the machine's limit, whatever numbers of 32 bits their expressions have.
-use Rattle.std.specs.Prelude.{◌≡◌, ℕ, ◌<◌, Bool, Some}
+use Rattle.std.specs.Prelude.{◌≡◌, ◌<◌, Bool, Some}
 use Rattle.checked_tree.specs.Light.{reach_of}
 use Rattle.checked_tree.specs.Numbers.{sum_limit}
 use Rattle.deputy_types.specs.declared.element.Element.{Element}

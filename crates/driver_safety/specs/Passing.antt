@@ -1,10 +1,9 @@
 -- What a check that a rule asks for says of a state, and a check of a function that tests it.
-use Rattle.std.specs.Prelude.{◌≡◌, ◌≢◌, ◌⊎◌, IsTrue, ℕ, ◌+◌, ◌<◌, ◌^◌, ◌==◌, List, ◌++◌, ℤ, pos, negsuc, ◌-ℤ◌, int_le, Bool, true, not}
+use Rattle.std.specs.Prelude.{◌≡◌, ◌≢◌, ◌⊎◌, IsTrue, ℕ, ◌+◌, ◌<◌, ◌^◌, ◌==◌, List, ◌++◌, ℤ, pos, negsuc, ◌-ℤ◌, int_le, Bool, not}
 use Rattle.std.specs.Prelude.{◌||◌, Option, Some, None, slice_get}
 use Rattle.std.specs.List.{list_all}
 use Rattle.byte_memory.specs.Bytes.{bytes_at}
 use Rattle.byte_memory.specs.Tested.{is_inside}
-use Rattle.sd_base.specs.declared.kinds.CheckKind.{CheckKind}
 use Rattle.checked_tree.specs.declared.units.CheckedFn.{CheckedFn}
 use Rattle.checked_tree.specs.declared.sums.Part.{Part}
 use Rattle.checked_tree.specs.declared.sums.Sum.{Sum}

@@ -1,6 +1,6 @@
 -- The law of a step: an accepted driver is never wild. A step of a good activity over a good memory goes on so, asks the kernel, ends, or
 -- fails at a line; and what the kernel answers, grants and starts leaves good activities.
-use Rattle.std.specs.Prelude.{◌≡◌, ℕ, ◌-◌, ◌^◌, ◌<◌, List, [], ◌∷◌, length, ℤ, pos, Option, Some, Ok, slice_get, slice_index_or}
+use Rattle.std.specs.Prelude.{◌≡◌, ℕ, List, [], ◌∷◌, map, ℤ, pos, Option, Some, Ok, slice_get, slice_index_or}
 use Rattle.std.specs.List.{Contains}
 use Rattle.byte_memory.specs.Tested.{Memory}
 use Rattle.sd_base.specs.Blocks.{Block}
@@ -18,8 +18,10 @@ use Rattle.checked_tree.specs.Step.{Activity, answer_set, target_of, step, answe
 use Rattle.deputy_types.specs.Table.{Table}
 use Rattle.deputy_types.specs.UnitLayout.{functions_of, layout}
 use Rattle.deputy_rules.specs.declared.signature.Returned.{Returned}
+use Rattle.deputy_rules.specs.declared.signature.Signature.{Signature}
 use Rattle.deputy_rules.specs.Functions.{context_of, checked}
-use Rattle.deputy_rules.specs.Heads.{parameter_shapes, result_of}
+use Rattle.deputy_rules.specs.Heads.{parameter_shapes, result_of, signature_of}
+use Rattle.driver_safety.specs.Asking.{IsLawfulCall}
 use Rattle.driver_safety.specs.Activities.{Terms, IsActivity, IsAsking, IsNext}
 use Rattle.driver_safety.specs.CallLaw.{GivesBack}
 use Rattle.driver_safety.specs.Goodness.{IsFrame, IsMemory}
@@ -46,19 +48,22 @@ module _ (u : TextUnit) (t : Table) where
   TakesEachAnswer k s call = (blocks : List Block) (ls : List ℤ) (m : Memory) (r : Answer) → HasGoodSlots blocks k ls → IsMemory t blocks m
       → Answers blocks call.elem r → HasGoodSlots blocks k (answer_set ls (target_of (out-CheckedStmt s)) r)
 
+  -- what calls see of the text's functions
+  abbrev pub signatures_of : List Signature
+  signatures_of = map (signature_of t) (functions_of u.items)
+
   abbrev pub terms_of : Terms
   terms_of = record {
     Slots = λ blocks k ls. HasGoodSlots blocks k ls;
     Remembers = λ blocks m. IsMemory t blocks m;
     Passed = λ blocks k vs. HasGoodArguments blocks k vs;
     Gives = λ blocks k v. HasGoodResult blocks k v;
-    Asked = λ blocks k s call. TakesEachAnswer k s call;
+    Asked = λ blocks k s call. TakesEachAnswer k s call × IsLawfulCall t blocks signatures_of call;
   }
 
 -- a unit that the rules derive from a short text, each of whose unions has an arm
 pub record IsAccepted (u : TextUnit) (t : Table) (c : CheckedUnit) : Type 0 where
   pub short : IsShortUnit u
-  pub few : length u.items < 2 ^ 32 - 1
   pub arms : ItemsHaveArms u.items
   pub laid : layout u ≡ Ok t
   pub derived : checked t u ≡ Ok c

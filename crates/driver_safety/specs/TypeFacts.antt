@@ -1,5 +1,5 @@
 -- What the laws take of the types of a text and of a function's slots. Each is a fact about what the declarations of a text come to.
-use Rattle.std.specs.Prelude.{◌≡◌, ◌≢◌, ◌⊎◌, ℕ, ◌+◌, ◌*◌, ◌<◌, ◌≤◌, Bool, true, false, List, [], ◌∷◌, All, ℤ, Option, Some, None, slice_get}
+use Rattle.std.specs.Prelude.{◌≡◌, ◌≢◌, ◌⊎◌, ℕ, ◌+◌, ◌<◌, ◌≤◌, true, false, List, All, ℤ, Option, Some, None, slice_get}
 use Rattle.c_tree.specs.Slots.{hidden_slot}
 use Rattle.c_tree.specs.declared.types.TypeName.{TypeName}
 use Rattle.checked_tree.specs.declared.shapes.Bounds.{Bounds}
@@ -18,8 +18,7 @@ use Rattle.checked_tree.specs.declared.units.ImageBlock.{ImageBlock}
 use Rattle.deputy_types.specs.declared.table.GlobalPlace.{GlobalPlace}
 use Rattle.deputy_types.specs.Extents.{key_extent}
 use Rattle.deputy_types.specs.Fitting.{is_open, shape_size}
-use Rattle.deputy_types.specs.Table.{Table, element_at, field, arm, global, literal, member, member_key, is_array, size, has_names}
-use Rattle.deputy_types.specs.Table.{union_shape}
+use Rattle.deputy_types.specs.Table.{Table, element_at, field, arm, global, literal, member_key, is_array, size, has_names}
 use Rattle.deputy_types.specs.UnitLayout.{elem_shape}
 use Rattle.deputy_rules.specs.Context.{Context, slot_shape}
 use Rattle.deputy_rules.specs.NameValues.{IsNumber}

@@ -1,5 +1,5 @@
 -- Unions that have arms: so are those of each text, whose grammar asks for an arm.
-use Rattle.std.specs.Prelude.{ℕ, ◌<◌, List, [], ◌∷◌, length}
+use Rattle.std.specs.Prelude.{◌<◌, List, [], ◌∷◌, length}
 use Rattle.c_tree.specs.declared.items.Field.{Field}
 use Rattle.c_tree.specs.declared.items.Field.TheVariants as field
 use Rattle.c_tree.specs.declared.items.Item.{Item}

@@ -1,7 +1,7 @@
 -- The numbers and characters that an expression is written with, as C's words are: a number has a value of 32 bits (C99 6.4.4.1, where
 -- `long` has as many),
 -- a character one of 8.
-use Rattle.std.specs.Prelude.{ℕ, ◌^◌, nat_lt, Bool, true, ◌&&◌}
+use Rattle.std.specs.Prelude.{◌^◌, nat_lt, Bool, true, ◌&&◌}
 use Rattle.c_tree.specs.declared.expressions.Expr.{Expr}
 use Rattle.c_tree.specs.declared.expressions.Expr.TheOpen as E
 use Rattle.c_tree.specs.declared.expressions.Expr.TheFolds.{fold-Expr}

@@ -1,5 +1,5 @@
 -- The law of `zero(l)`, which sets all bytes of a union to 0: each arm that a tag may select holds 0 then, and a pointer that is 0 fits.
-use Rattle.std.specs.Prelude.{◌≡◌, IsTrue, ℕ, List, [], Some, length}
+use Rattle.std.specs.Prelude.{◌≡◌, IsTrue, List, [], Some, length}
 use Rattle.sd_base.specs.Blocks.{Block}
 use Rattle.checked_tree.specs.declared.statements.CheckedStmt.{CheckedStmt, out-CheckedStmt}
 use Rattle.checked_tree.specs.declared.units.CheckedFn.{CheckedFn}

@@ -1,13 +1,17 @@
 //! The laws.
+ghost use Rattle.driver_safety.specs.AskLaw.{EachCallIsLawful, EachHandlerTakesANumber, EachTextIsReadable};
 ghost use Rattle.driver_safety.specs.AssignmentLaw.{EachAssignmentIsSound};
 ghost use Rattle.driver_safety.specs.CallLaw.{EachCallIsSound, EachReturnIsSound};
 ghost use Rattle.driver_safety.specs.DeclarationLaws.{EachFunctionHasHead, EachFunctionHasSlots, EachTableHasTypes};
 ghost use Rattle.driver_safety.specs.EntryLaw.{EachFirstFrameIsGood};
 ghost use Rattle.driver_safety.specs.ExpressionLaw.{EachPlaceIsSound, EachValueIsSound};
+ghost use Rattle.driver_safety.specs.FirstDriver.{EachTextCanBeLoaded};
 ghost use Rattle.driver_safety.specs.GrantLaw.{EachGrantKeepsMemory};
 ghost use Rattle.driver_safety.specs.KernelLaw.{EachAnswerIsTaken};
 ghost use Rattle.driver_safety.specs.LoadLaw.{EachLoadIsGood};
+ghost use Rattle.driver_safety.specs.OutsideLaw.{EachStepStaysInside};
 ghost use Rattle.driver_safety.specs.ResultLaw.{EachResultIsTaken};
+ghost use Rattle.driver_safety.specs.RunLaw.{EachRunIsSafe};
 ghost use Rattle.driver_safety.specs.StepLaw.{EachAnswerLeavesGood, EachGrantLeavesGood, EachStartIsGood, EachStepIsSafe};
 ghost use Rattle.driver_safety.specs.UnionArms.{EachReadUnitHasArms};
 ghost use Rattle.driver_safety.specs.ZeroLaw.{EachZeroIsSound};
@@ -111,4 +115,36 @@ pub fn every_start_is_good()
 /// The memory behind a load is good: each block of the load image is granted where it lies, and holds what fits its type.
 pub fn every_load_is_good()
     ensures { EachLoadIsGood }
+{}
+
+/// What a good activity asks of the kernel is lawful: `prints` is given null or the address of a byte of text, a handler is a function of one `int` without a result, and
+/// `kalloc` is asked for elements of a type of the text, with its size.
+pub fn every_call_of_the_kernel_is_lawful()
+    ensures { EachCallIsLawful }
+{}
+
+/// So the kernel may call a handler with any number: such a call from outside may begin.
+pub fn every_handler_takes_a_number()
+    ensures { EachHandlerTakesANumber }
+{}
+
+/// And it may read a text from any of its bytes on: each byte up to the first 0 was granted.
+pub fn every_text_is_readable()
+    ensures { EachTextIsReadable }
+{}
+
+/// A step changes no byte that was not granted: of whatever unit, in whatever state.
+pub fn every_step_stays_inside()
+    ensures { EachStepStaysInside }
+{}
+
+/// No run of a loaded driver is wild. Whatever happens next, in whatever order (any of its activities takes a step, ends or is answered; a block is granted; a call from
+/// outside begins), its memory and all its activities stay good, each byte outside its blocks stays 0, and no step of any of them is wild.
+pub fn every_run_is_safe()
+    ensures { EachRunIsSafe }
+{}
+
+/// And each text whose types are laid out can be loaded so: in a memory of zeros that has room, where its image is copied in and each block of it is granted.
+pub fn every_text_can_be_loaded()
+    ensures { EachTextCanBeLoaded }
 {}

@@ -1,8 +1,6 @@
 -- Each assignment keeps a good state.
-use Rattle.std.proofs.Common.{◌≡◌, ℕ, List, [], Option, Some, refl, sym, subst}
+use Rattle.std.proofs.Common.{◌≡◌, ℕ, List, [], Some, refl, sym, subst}
 use Rattle.sd_base.specs.Blocks.{Block}
-use Rattle.checked_tree.specs.declared.shapes.Member.{Member}
-use Rattle.checked_tree.specs.declared.shapes.Shape.{Shape}
 use Rattle.checked_tree.specs.declared.statements.CheckedStmt.{CheckedStmt}
 use Rattle.checked_tree.specs.declared.units.CheckedFn.{CheckedFn}
 use Rattle.checked_tree.specs.Conditions.{State}
@@ -14,12 +12,12 @@ use Rattle.deputy_rules.specs.declared.derived.Derived.TheVariants as derived
 use Rattle.deputy_rules.specs.declared.derived.Place.{Place}
 use Rattle.deputy_rules.specs.declared.derived.Source.{Source}
 use Rattle.deputy_rules.specs.declared.derived.Source.TheVariants as source
-use Rattle.deputy_rules.specs.Assignment.{assign, assign_to, assign_local, store, store_by, store_byte, store_member}
+use Rattle.deputy_rules.specs.Assignment.{assign, assign_to, assign_local, store, store_by, store_member}
 use Rattle.deputy_rules.specs.Context.{Context, slot_shape}
-use Rattle.deputy_rules.specs.Deriving.{Deriving, bind, lift}
+use Rattle.deputy_rules.specs.Deriving.{Deriving, bind}
 use Rattle.deputy_rules.specs.Expressions.{derive}
 use Rattle.deputy_rules.specs.Values.{integer_of}
-use Rattle.driver_safety.specs.AssignmentLaw.{IsAssignedIn, EachAssignmentIsSound}
+use Rattle.driver_safety.specs.AssignmentLaw.{EachAssignmentIsSound}
 use Rattle.driver_safety.specs.Derivations.{IsDerived}
 use Rattle.driver_safety.specs.Goodness.{IsGood}
 use Rattle.driver_safety.specs.LightHandling.{HandsLightly}

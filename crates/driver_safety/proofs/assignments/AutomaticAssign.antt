@@ -1,27 +1,25 @@
 -- An assignment to a pointer local without annotation, which takes its bounds with it in two hidden slots; and so each assignment to a
 -- local.
-use Rattle.std.proofs.Common.{◌≡◌, ◌≢◌, ◌⊎◌, inl, inr, ℕ, zero, suc, ◌+◌, ◌<◌, ◌^◌, ◌==◌, nat_lt, IsTrue, Bool, true, false, List, [], ◌∷◌}
-use Rattle.std.proofs.Common.{length, set, ℤ, pos, negsuc, Option, Some, None, Ok, Err, slice_get, slice_set, slice_index_or, if◌then◌else◌}
+use Rattle.std.proofs.Common.{◌≡◌, ◌≢◌, ◌⊎◌, inl, inr, ℕ, ◌+◌, ◌<◌, ◌^◌, ◌==◌, IsTrue, Bool, true, false, List, []}
+use Rattle.std.proofs.Common.{length, ℤ, pos, negsuc, Option, Some, Ok, Err, slice_set, if◌then◌else◌}
 use Rattle.std.proofs.Common.{refl, sym, ap, ◌∙◌, subst, true≢false, arith}
 use Rattle.std.specs.Ordering.{int_eq}
 use Rattle.std.proofs.lemmas.Bool.{lt-ltb}
 use Rattle.std.proofs.lemmas.Bool.Decides.{Decides-eqb, Decides-int_eq}
 use Rattle.std.proofs.lemmas.List.{get_or-set_same, get_or-set_other, length-set}
-use Rattle.sd_base.specs.Blocks.{Block, block_end}
+use Rattle.sd_base.specs.Blocks.{Block}
 use Rattle.c_tree.specs.Slots.{hidden_slot}
 use Rattle.sd_base.specs.declared.actors.Fat.{Fat}
-use Rattle.checked_tree.specs.declared.shapes.Bounds.{Bounds}
 use Rattle.checked_tree.specs.declared.shapes.Bounds.TheVariants as bounds
 use Rattle.checked_tree.specs.declared.shapes.Edge.{Edge}
 use Rattle.checked_tree.specs.declared.shapes.Scalar.{Scalar}
 use Rattle.checked_tree.specs.declared.shapes.Shape.{Shape}
 use Rattle.checked_tree.specs.declared.shapes.Shape.TheVariants as shape
-use Rattle.checked_tree.specs.declared.statements.CheckedStmt.{CheckedStmt, out-CheckedStmt}
 use Rattle.checked_tree.specs.declared.statements.CheckedStmt.TheVariants as statement
 use Rattle.checked_tree.specs.declared.statements.PointerOperand.{PointerOperand}
 use Rattle.checked_tree.specs.declared.stops.Stop.TheVariants.{Wild}
 use Rattle.checked_tree.specs.declared.units.CheckedFn.{CheckedFn}
-use Rattle.checked_tree.specs.Act.{act, goes_on, pointer_set, with_pointer, On}
+use Rattle.checked_tree.specs.Act.{act, goes_on, with_pointer, On}
 use Rattle.checked_tree.specs.Conditions.{State}
 use Rattle.checked_tree.specs.Eval.{eval, tests}
 use Rattle.checked_tree.specs.Numbers.{is_value, is_word, word_of}
@@ -33,28 +31,26 @@ use Rattle.deputy_types.specs.declared.element.Element.{Element}
 use Rattle.deputy_types.specs.Fitting.{Fits, null as nowhere, in_text, in_bounds}
 use Rattle.deputy_types.specs.Table.{element_at}
 use Rattle.deputy_rules.specs.declared.derived.Derived.{Derived}
-use Rattle.deputy_rules.specs.declared.derived.Value.TheVariants as value
 use Rattle.deputy_rules.specs.declared.handed.Handed.{Handed}
 use Rattle.deputy_rules.specs.declared.naming.Names.TheVariants as names
-use Rattle.deputy_rules.specs.Assignment.{assign_integer, assign_automatic, assign_annotated, assign_pointer, assign_local}
-use Rattle.deputy_rules.specs.Changes.{changed, slot_changes, sibling_changes}
+use Rattle.deputy_rules.specs.Assignment.{assign_automatic, assign_annotated, assign_pointer, assign_local}
+use Rattle.deputy_rules.specs.Changes.{changed, slot_changes}
 use Rattle.deputy_rules.specs.Coercion.{handed}
 use Rattle.deputy_rules.specs.Context.{Context, slot_shape}
-use Rattle.deputy_rules.specs.Deriving.{Deriving, lift, pure}
 use Rattle.deputy_rules.specs.NameValues.{AreOnce, local_at}
 use Rattle.deputy_rules.specs.SumValues.{HasValue}
 use Rattle.deputy_rules.specs.Values.{integer_of, of_slots}
-use Rattle.driver_safety.specs.Derivations.{IsValue, IsDerived}
-use Rattle.driver_safety.specs.Goodness.{IsGood, IsBlock, SlotHolds, FitsHidden}
+use Rattle.driver_safety.specs.Derivations.{IsDerived}
+use Rattle.driver_safety.specs.Goodness.{IsGood, IsBlock, FitsHidden}
 use Rattle.driver_safety.specs.LightHandling.{IsLightHanded, HandsLightly}
 use Rattle.driver_safety.specs.TypeFacts.{HasTypes, HasSlots}
 use Rattle.driver_safety.proofs.assignments.HandedRules.{IsHanded}
 use Rattle.driver_safety.proofs.assignments.Handing.{Hands, handed_sound}
 use Rattle.driver_safety.proofs.assignments.LightBounds.{sum_is}
-use Rattle.driver_safety.proofs.assignments.SiblingRules.{OthersKeep, siblings_kept}
+use Rattle.driver_safety.proofs.assignments.SiblingRules.{siblings_kept}
 use Rattle.driver_safety.proofs.assignments.SlotAssign.{Leaves, assign_integer_sound, assign_text_sound, assign_bounded_sound}
 use Rattle.driver_safety.proofs.assignments.SlotChanges.{IsPlainSlot, IsNext, all_renamed, frame_next}
-use Rattle.driver_safety.proofs.checks.Evaluations.{safe_same, safe_weaker, Pass, pass_none}
+use Rattle.driver_safety.proofs.checks.Evaluations.{safe_same, pass_none}
 use Rattle.driver_safety.proofs.checks.Sounding.{Sound, then_sound, pure_sound, lift_sound, none_sound, weaker}
 use Rattle.driver_safety.proofs.expressions.OperatorRules.{integer_sound}
 use Rattle.driver_safety.proofs.expressions.PlaceRules.{safe_step}

@@ -1,8 +1,7 @@
 -- The checks of a coercion: what fits its own bounds fits the narrower ones.
-use Rattle.std.proofs.Common.{◌≡◌, ◌≢◌, ◌⊎◌, inl, inr, ℕ, zero, suc, ◌+◌, ◌-◌, ◌*◌, ◌/◌, ◌%◌, ◌≤◌, ◌<◌, nat_lt, nat_le, IsTrue, Bool, true}
-use Rattle.std.proofs.Common.{false, ◌||◌, List, [], ◌∷◌, ◌++◌, ℤ, pos, negsuc, ◌+ℤ◌, ◌-ℤ◌, int_le, int_rem, Ok, if◌then◌else◌, refl, sym}
+use Rattle.std.proofs.Common.{◌≡◌, ◌⊎◌, inl, inr, ℕ, zero, suc, ◌+◌, ◌-◌, ◌*◌, ◌/◌, ◌%◌, ◌≤◌, ◌<◌, nat_lt, nat_le, IsTrue, Bool, true}
+use Rattle.std.proofs.Common.{false, List, [], ◌∷◌, ℤ, pos, negsuc, ◌-ℤ◌, int_le, refl, sym}
 use Rattle.std.proofs.Common.{ap, ◌∙◌, subst, arith}
-use Rattle.std.specs.Ordering.{int_eq}
 use Rattle.std.proofs.lemmas.Int.{ints}
 use Rattle.std.proofs.lemmas.Nat.{mul-le}
 use Rattle.std.proofs.lemmas.Bool.Decides.{Decides-int_eq}
@@ -12,18 +11,16 @@ use Rattle.checked_tree.specs.declared.shapes.Shape.{Shape}
 use Rattle.checked_tree.specs.declared.shapes.StructShape.{StructShape}
 use Rattle.checked_tree.specs.declared.sums.Sum.{Sum}
 use Rattle.checked_tree.specs.declared.units.CheckedFn.{CheckedFn}
-use Rattle.checked_tree.specs.Outcome.{Outcome, Safe}
 use Rattle.checked_tree.specs.Conditions.{State, is_multiple}
 use Rattle.checked_tree.specs.Eval.{tests, test, check_of}
 use Rattle.deputy_rules.specs.declared.asked.AskedCond.TheVariants as cond
 use Rattle.deputy_rules.specs.Context.{Context}
 use Rattle.deputy_rules.specs.Coercion.{coerce, ask_aligned}
-use Rattle.deputy_rules.specs.Deriving.{Deriving, pure, ask}
-use Rattle.deputy_types.specs.Fitting.{Fits, null, in_text, in_bounds, IsBounded, IsOpenPlace, elem_bytes}
+use Rattle.deputy_rules.specs.Deriving.{ask}
+use Rattle.deputy_types.specs.Fitting.{Fits, null, in_text, in_bounds, IsOpenPlace, elem_bytes}
 use Rattle.deputy_types.specs.StructLaws.{IsMultiple}
 use Rattle.deputy_rules.specs.SumValues.{parts_at, HasValue}
-use Rattle.driver_safety.specs.Passing.{IsTested}
-use Rattle.driver_safety.proofs.checks.Evaluations.{safe_weaker, safe_again, Pass, pass_none, pass_one, pass_then}
+use Rattle.driver_safety.proofs.checks.Evaluations.{safe_weaker, Pass, pass_none, pass_one, pass_then}
 use Rattle.driver_safety.proofs.expressions.Steps.{le_pos}
 use Rattle.driver_safety.proofs.checks.Sounding.{Sound, then_sound, pure_sound, ask_sound, if_sound, weaker}
 

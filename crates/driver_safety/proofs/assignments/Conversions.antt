@@ -1,19 +1,15 @@
 -- A converted value in a check.
-use Rattle.std.proofs.Common.{◌≡◌, ◌≢◌, ℕ, ◌+◌, ◌-◌, ◌%◌, ◌^◌, ◌<◌, ◌≤◌, nat_lt, IsTrue, Bool, true, false, List, [], ◌∷◌, ℤ, pos, negsuc}
-use Rattle.std.proofs.Common.{◌+ℤ◌, ◌-ℤ◌, ◌*ℤ◌, ◌≤ℤ◌, neg_ℤ, Option, Some, None, Ok, if◌then◌else◌, refl, sym, ap, ◌∙◌, subst, arith}
+use Rattle.std.proofs.Common.{◌≡◌, ◌≢◌, IsTrue, Bool, true, false, [], ℤ, pos}
+use Rattle.std.proofs.Common.{Option, Some, None, Ok, if◌then◌else◌, refl, sym, ap, ◌∙◌, subst, arith}
 use Rattle.std.proofs.lemmas.Int.{ints}
-use Rattle.std.proofs.lemmas.Bool.{lt-ltb}
 use Rattle.std.proofs.Math.IntN.{*ℤ_comm}
 use Rattle.checked_tree.specs.declared.expressions.CheckedExpr.{CheckedExpr}
 use Rattle.checked_tree.specs.declared.expressions.CheckedExpr.TheVariants as form
 use Rattle.checked_tree.specs.declared.expressions.Unary.TheVariants.{Cast}
 use Rattle.checked_tree.specs.declared.shapes.Scalar.{Scalar}
-use Rattle.checked_tree.specs.declared.shapes.Scalar.TheVariants.{Void, U8, I8, U16, I16, I32, U32, Pointer}
-use Rattle.checked_tree.specs.declared.sums.Part.{Part}
-use Rattle.checked_tree.specs.declared.sums.Part.TheVariants.{Constant, Atom}
+use Rattle.checked_tree.specs.declared.shapes.Scalar.TheVariants.{Void}
 use Rattle.checked_tree.specs.declared.units.CheckedFn.{CheckedFn}
-use Rattle.checked_tree.specs.Bare.{bare}
-use Rattle.checked_tree.specs.Numbers.{low_bits, signed, converted, is_between, is_word, is_value, is_of, unary}
+use Rattle.checked_tree.specs.Numbers.{converted, is_value, unary}
 use Rattle.checked_tree.specs.Outcome.{Got, ◌>>=◌}
 use Rattle.checked_tree.specs.Conditions.{State, peek, eval_level}
 use Rattle.checked_tree.specs.Eval.{eval}
@@ -21,7 +17,7 @@ use Rattle.checked_tree.proofs.Equations.{at-Unary}
 use Rattle.deputy_rules.specs.declared.derived.Whole.{Whole}
 use Rattle.deputy_rules.specs.Coercion.{side_by as converted_by, converted_side, cast_part}
 use Rattle.deputy_rules.specs.Sums.{side, side_by, constant_of, constant_part, atom_part, sum_of}
-use Rattle.deputy_rules.specs.SumValues.{part_at, PartHasValue, HasValue}
+use Rattle.deputy_rules.specs.SumValues.{part_at, HasValue}
 use Rattle.driver_safety.specs.Derivations.{IsWhole}
 use Rattle.deputy_rules.specs.NameValues.{IsOnce, AreOnce}
 use Rattle.checked_tree.proofs.NumberRanges.{of_value, converted_of}

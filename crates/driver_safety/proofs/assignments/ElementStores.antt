@@ -1,13 +1,12 @@
 -- Stores to elements and to bytes of text leave a good memory.
-use Rattle.std.proofs.Common.{◌≡◌, ◌≢◌, ◌⊎◌, inl, inr, ℕ, zero, suc, ◌+◌, ◌-◌, ◌*◌, ◌%◌, ◌^◌, ◌≤◌, ◌<◌, ◌==◌, IsTrue, Bool, true, false}
-use Rattle.std.proofs.Common.{List, [], ◌∷◌, ◌++◌, All, length, ℤ, pos, negsuc, ◌+ℤ◌, ◌*ℤ◌, Option, Some, None, option_map, unwrap_or, Ok}
-use Rattle.std.proofs.Common.{Err, slice_get, slice_index_or, if◌then◌else◌, refl, sym, ap, ◌∙◌, subst, true≢false, arith}
-use Rattle.std.specs.List.{Contains}
+use Rattle.std.proofs.Common.{◌≡◌, ◌≢◌, ◌⊎◌, inl, inr, ℕ, ◌+◌, ◌-◌, ◌*◌, ◌%◌, ◌^◌, ◌≤◌, ◌<◌, ◌==◌, IsTrue, Bool, true, false}
+use Rattle.std.proofs.Common.{List, [], ◌∷◌, length, ℤ, pos, negsuc, ◌+ℤ◌, ◌*ℤ◌, Option, Some, None, option_map, unwrap_or, Ok}
+use Rattle.std.proofs.Common.{slice_index_or, refl, sym, ap, ◌∙◌, subst, true≢false, arith}
 use Rattle.std.proofs.lemmas.Bool.Decides.{Decides-eqb}
 use Rattle.std.proofs.lemmas.Int.{ints}
 use Rattle.sd_base.specs.Blocks.{Block, block_end}
 use Rattle.sd_base.specs.declared.kinds.CheckKind.TheVariants as kind
-use Rattle.byte_memory.specs.Bytes.{little_endian, low_bytes, bytes_at, overwritten}
+use Rattle.byte_memory.specs.Bytes.{low_bytes, overwritten}
 use Rattle.byte_memory.specs.Tested.{Memory, is_inside}
 use Rattle.byte_memory.proofs.Addresses.{length-low_bytes, load_after_store}
 use Rattle.byte_memory.proofs.Words.{load_1, length-overwritten}
@@ -15,21 +14,19 @@ use Rattle.c_tree.specs.Slots.{hidden_slot}
 use Rattle.checked_tree.specs.declared.shapes.Bounds.{Bounds}
 use Rattle.checked_tree.specs.declared.shapes.Bounds.TheVariants as bounds
 use Rattle.checked_tree.specs.declared.shapes.Scalar.{Scalar}
-use Rattle.checked_tree.specs.declared.shapes.Scalar.TheVariants.{Void, U8, Pointer}
+use Rattle.checked_tree.specs.declared.shapes.Scalar.TheVariants.{U8, Pointer}
 use Rattle.checked_tree.specs.declared.shapes.Shape.{Shape}
 use Rattle.checked_tree.specs.declared.shapes.Shape.TheVariants as shape
-use Rattle.checked_tree.specs.declared.statements.CheckedStmt.{CheckedStmt, out-CheckedStmt}
 use Rattle.checked_tree.specs.declared.statements.CheckedStmt.TheVariants as statement
 use Rattle.checked_tree.specs.declared.sums.Part.{Part}
 use Rattle.checked_tree.specs.declared.sums.Part.TheVariants.{Constant}
-use Rattle.checked_tree.specs.declared.sums.Sum.{Sum}
 use Rattle.checked_tree.specs.declared.units.CheckedFn.{CheckedFn}
 use Rattle.checked_tree.specs.Act.{act, remembers, On}
 use Rattle.checked_tree.specs.Conditions.{State}
 use Rattle.checked_tree.specs.Edges.{edge_value}
 use Rattle.checked_tree.specs.Eval.{eval, tests}
-use Rattle.checked_tree.specs.Memory.{reached, written, store}
-use Rattle.checked_tree.specs.Numbers.{converted, is_of, is_word, low_bits, scalar_size}
+use Rattle.checked_tree.specs.Memory.{written, store}
+use Rattle.checked_tree.specs.Numbers.{converted, is_word, low_bits, scalar_size}
 use Rattle.checked_tree.specs.Operands.{taken}
 use Rattle.checked_tree.specs.Outcome.{Outcome, Got, ◌>>=◌, Safe}
 use Rattle.checked_tree.proofs.Outcomes.{safe_bind}
@@ -37,11 +34,10 @@ use Rattle.layout_laws.proofs.ZeroFits.{lies_in}
 use Rattle.deputy_types.specs.declared.element.Element.{Element}
 use Rattle.deputy_types.specs.declared.element.Element.TheVariants as element
 use Rattle.deputy_types.specs.Declarations.{own as own_edge, up_to, with_bytes}
-use Rattle.deputy_types.specs.Fitting.{Fits, null, in_text, in_bounds, IsInText, FitsBounds, BytesFit, Part as Lies, is_open, elem_bytes}
+use Rattle.deputy_types.specs.Fitting.{Fits, null, in_text, in_bounds, IsInText, Part as Lies, is_open, elem_bytes}
 use Rattle.deputy_types.specs.Fitting.{shape_size, place_value}
 use Rattle.deputy_types.specs.Table.{element_at, elem_size}
 use Rattle.deputy_types.specs.UnitLayout.{elem_shape}
-use Rattle.deputy_types.proofs.Inversions.{some_then}
 use Rattle.deputy_rules.specs.declared.derived.Derived.{Derived}
 use Rattle.deputy_rules.specs.declared.derived.Derived.TheVariants as derived
 use Rattle.deputy_rules.specs.declared.derived.Place.{Place}
@@ -50,27 +46,23 @@ use Rattle.deputy_rules.specs.declared.derived.Source.TheVariants as source
 use Rattle.deputy_rules.specs.declared.derived.Value.TheVariants as value
 use Rattle.deputy_rules.specs.declared.derived.Whole.{Whole}
 use Rattle.deputy_rules.specs.declared.handed.Handed.{Handed}
-use Rattle.deputy_rules.specs.declared.asked.AskedCond.TheVariants as cond
 use Rattle.deputy_rules.specs.Assignment.{store_counted, store_text, store_integer, store_element, store_byte}
-use Rattle.deputy_rules.specs.Coercion.{handed, coerce, coerce_within, coerce_counted, converted_side}
+use Rattle.deputy_rules.specs.Coercion.{handed, coerce_within, coerce_counted, converted_side}
 use Rattle.deputy_rules.specs.Context.{Context}
-use Rattle.deputy_rules.specs.Deriving.{Deriving, lift, pure, ask}
-use Rattle.deputy_rules.specs.NameValues.{local_at}
 use Rattle.deputy_rules.specs.Sums.{sum_of, with_part}
 use Rattle.deputy_rules.specs.SumValues.{part_at, parts_at, PartHasValue, HasValue}
 use Rattle.deputy_rules.specs.Values.{integer_of, size_of}
 use Rattle.deputy_rules.proofs.SumsHave.{has_with_part}
-use Rattle.driver_safety.specs.Derivations.{IsWhole, IsPlace, IsElementAt, LiesAt, IsValue, IsDerived}
-use Rattle.driver_safety.specs.Goodness.{IsGood, IsFrame, IsBlock, IsMemory, SlotHolds, SlotFits, FitsHidden}
-use Rattle.driver_safety.specs.Passing.{IsInside, place_of, clear_at}
-use Rattle.driver_safety.specs.Reaching.{IsOpenAt}
+use Rattle.driver_safety.specs.Derivations.{IsPlace, IsElementAt, LiesAt, IsValue, IsDerived}
+use Rattle.driver_safety.specs.Goodness.{IsGood, IsBlock, IsMemory, SlotHolds, SlotFits, FitsHidden}
+use Rattle.driver_safety.specs.Passing.{IsInside, clear_at}
 use Rattle.driver_safety.specs.StructPlaces.{IsLeaf}
-use Rattle.driver_safety.specs.TypeFacts.{HasTypes, HasSlots, IsInteger, IsType, key_shape}
+use Rattle.driver_safety.specs.TypeFacts.{HasTypes, HasSlots, key_shape}
 use Rattle.driver_safety.proofs.assignments.Coercions.{coerce_sound, narrow}
 use Rattle.driver_safety.proofs.assignments.Conversions.{converted_has}
 use Rattle.driver_safety.proofs.assignments.ElementSizes.{element_size}
 use Rattle.driver_safety.proofs.assignments.HandedRules.{IsHanded}
-use Rattle.driver_safety.proofs.assignments.Handing.{Hands, handed_sound}
+use Rattle.driver_safety.proofs.assignments.Handing.{handed_sound}
 use Rattle.driver_safety.proofs.assignments.KeptRules.{term_sound}
 use Rattle.driver_safety.proofs.assignments.SlotAssign.{Leaves, taken_is, word_taken}
 use Rattle.driver_safety.proofs.checks.Evaluations.{safe_same, safe_weaker, Pass, pass_none}
@@ -78,12 +70,11 @@ use Rattle.driver_safety.proofs.checks.Reached.{reached_is}
 use Rattle.driver_safety.proofs.checks.Sounding.{Sound, then_sound, pure_sound, lift_sound, if_sound, none_sound, weaker}
 use Rattle.driver_safety.proofs.expressions.OperatorRules.{integer_sound}
 use Rattle.driver_safety.proofs.expressions.PlaceRules.{safe_step}
-use Rattle.driver_safety.proofs.expressions.ReadRules.{no_void}
 use Rattle.driver_safety.proofs.expressions.TextRules.{one_clear, text_inside}
 use Rattle.driver_safety.proofs.memory.Lying.{any_part, IsWithin, open_within, inside_block, below_block}
 use Rattle.driver_safety.proofs.memory.OpenWrites.{HoldsAny, open_keeps}
 use Rattle.driver_safety.proofs.memory.Outside.{other_byte}
-use Rattle.driver_safety.proofs.memory.Writes.{low_small, element_from, KeepsBlock, own_block, one_element, memory_next}
+use Rattle.driver_safety.proofs.memory.Writes.{low_small, element_from, one_element, memory_next}
 
 some_same : {A : Type 0} (a b : A) → ◌≡◌ {A = Option A} (Some a) (Some b) → a ≡ b
 some_same a b h = cc

@@ -1,13 +1,11 @@
 -- A pointer that is handed to a type with an annotation fits it behind the checks, by the names of that type: at an assignment, a call and
 -- a return.
-use Rattle.std.proofs.Common.{◌≡◌, ◌≢◌, ℕ, IsTrue, Bool, true, false, List, [], ◌∷◌, ℤ, pos, Option, Some, None, refl, sym, ap, ◌∙◌, subst}
+use Rattle.std.proofs.Common.{◌≡◌, ℕ, IsTrue, Bool, true, false, List, [], ℤ, pos, Some}
 use Rattle.sd_base.specs.Blocks.{Block}
 use Rattle.sd_base.specs.declared.kinds.CheckKind.TheVariants as kind
-use Rattle.checked_tree.specs.declared.shapes.Bounds.{Bounds}
 use Rattle.checked_tree.specs.declared.shapes.Bounds.TheVariants as bounds
 use Rattle.checked_tree.specs.declared.shapes.Edge.{Edge}
 use Rattle.checked_tree.specs.declared.shapes.Shape.TheVariants as shape
-use Rattle.checked_tree.specs.declared.sums.Sum.{Sum}
 use Rattle.checked_tree.specs.declared.units.CheckedFn.{CheckedFn}
 use Rattle.checked_tree.specs.Conditions.{State}
 use Rattle.checked_tree.specs.Edges.{edge_value}
@@ -17,16 +15,15 @@ use Rattle.deputy_types.specs.declared.element.Element.{Element}
 use Rattle.deputy_rules.specs.declared.handed.Handed.{Handed}
 use Rattle.deputy_rules.specs.declared.naming.Naming.{Naming}
 use Rattle.deputy_rules.specs.Calls.{coerce_shape}
-use Rattle.deputy_rules.specs.Coercion.{coerce, coerce_within, coerce_to}
+use Rattle.deputy_rules.specs.Coercion.{coerce_within, coerce_to}
 use Rattle.deputy_rules.specs.Context.{Context}
-use Rattle.deputy_rules.specs.Deriving.{Deriving, pure, lift}
 use Rattle.deputy_types.specs.Fitting.{Fits, null}
 use Rattle.deputy_types.specs.Table.{element_at}
 use Rattle.deputy_rules.specs.Values.{size_of, low_sum, high_sum, edge_sum}
 use Rattle.deputy_rules.specs.SumValues.{HasValue}
 use Rattle.driver_safety.specs.TypeFacts.{HasTypes}
 use Rattle.driver_safety.proofs.assignments.ElementSizes.{element_size}
-use Rattle.driver_safety.proofs.assignments.Coercions.{Narrows, coerce_sound, narrow}
+use Rattle.driver_safety.proofs.assignments.Coercions.{coerce_sound, narrow}
 use Rattle.deputy_rules.specs.NameValues.{HaveNames}
 use Rattle.deputy_rules.proofs.EdgesHave.{has_edge}
 use Rattle.driver_safety.proofs.checks.Evaluations.{safe_weaker, Pass, pass_none}

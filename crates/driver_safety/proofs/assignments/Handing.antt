@@ -1,5 +1,5 @@
 -- What is handed over where a pointer to an element is wanted: the null constant, or a pointer to that very element.
-use Rattle.std.proofs.Common.{◌≡◌, ℕ, IsTrue, Bool, true, false, ◌&&◌, ◌==◌, List, [], ℤ, pos, Option, Some, None, Ok, if◌then◌else◌, refl}
+use Rattle.std.proofs.Common.{◌≡◌, ℕ, Bool, true, false, ◌&&◌, ◌==◌, List, [], ℤ, pos, Option, Some, None, if◌then◌else◌, refl}
 use Rattle.std.proofs.Common.{sym, ap, ◌∙◌, subst}
 use Rattle.std.specs.Ordering.{int_eq}
 use Rattle.std.proofs.lemmas.Bool.Decides.{Decides-eqb, Decides-int_eq}
@@ -12,7 +12,7 @@ use Rattle.checked_tree.specs.Eval.{eval}
 use Rattle.checked_tree.specs.Outcome.{Safe}
 use Rattle.deputy_types.specs.declared.element.Element.{Element}
 use Rattle.deputy_types.specs.declared.element.Element.TheVariants as element
-use Rattle.deputy_types.specs.Fitting.{Fits, null}
+use Rattle.deputy_types.specs.Fitting.{null}
 use Rattle.deputy_types.specs.Table.{element_at}
 use Rattle.deputy_types.specs.Types.{same_scalar, same_element}
 use Rattle.deputy_types.proofs.Inversions.{some_then}
@@ -27,7 +27,7 @@ use Rattle.deputy_rules.specs.Operators.{same_truth}
 use Rattle.deputy_rules.specs.Pointers.{is_written}
 use Rattle.deputy_rules.specs.Values.{value_of}
 use Rattle.deputy_rules.proofs.SumsHave.{has_constant}
-use Rattle.driver_safety.specs.Derivations.{IsPointer, IsValue, IsDerived}
+use Rattle.driver_safety.specs.Derivations.{IsValue, IsDerived}
 use Rattle.driver_safety.specs.Goodness.{IsGood}
 use Rattle.driver_safety.specs.Reaching.{Reaches}
 use Rattle.driver_safety.specs.TypeFacts.{HasTypes, HasSlots, key_shape}

@@ -1,34 +1,29 @@
 -- Tags and terminators: what the checks Change of a tag and Term say.
-use Rattle.std.proofs.Common.{◌≡◌, ◌≢◌, ◌⊎◌, inl, inr, ℕ, ◌+◌, ◌-◌, ◌*◌, ◌<◌, ◌≤◌, ◌==◌, IsTrue, Bool, true, false, not, ◌||◌, List, []}
-use Rattle.std.proofs.Common.{◌∷◌, ◌++◌, ℤ, pos, negsuc, ◌+ℤ◌, ◌-ℤ◌, ◌*ℤ◌, neg_ℤ, Option, Some, None, refl, sym, ap, ◌∙◌, subst, arith}
+use Rattle.std.proofs.Common.{◌≡◌, ◌⊎◌, inl, inr, ℕ, IsTrue, Bool, true, false, not, ◌||◌, List, []}
+use Rattle.std.proofs.Common.{◌∷◌, ℤ, pos, negsuc, ◌+ℤ◌, ◌*ℤ◌, neg_ℤ, Option, Some, refl, sym, ap, ◌∙◌, subst, arith}
 use Rattle.std.specs.Ordering.{int_eq}
-use Rattle.std.specs.List.{list_all}
 use Rattle.std.proofs.Math.IntN.{*ℤ_comm}
 use Rattle.std.proofs.lemmas.Bool.Decides.{Decides-int_eq}
 use Rattle.std.proofs.lemmas.Int.{ints}
 use Rattle.dep_expr.proofs.Integers.{neg-mul}
 use Rattle.sd_base.specs.declared.kinds.CheckKind.TheVariants as kind
-use Rattle.byte_memory.specs.Bytes.{bytes_at}
-use Rattle.checked_tree.specs.declared.expressions.CheckedExpr.TheVariants as form
 use Rattle.checked_tree.specs.declared.shapes.Scalar.{Scalar}
-use Rattle.checked_tree.specs.declared.shapes.Scalar.TheVariants.{U8}
 use Rattle.checked_tree.specs.declared.shapes.UnionShape.{UnionShape}
 use Rattle.checked_tree.specs.declared.sums.Part.{Part}
 use Rattle.checked_tree.specs.declared.sums.Part.TheVariants.{Constant}
 use Rattle.checked_tree.specs.declared.sums.Sum.{Sum}
 use Rattle.checked_tree.specs.declared.units.CheckedFn.{CheckedFn}
-use Rattle.checked_tree.specs.Outcome.{Outcome, Safe}
-use Rattle.checked_tree.specs.Conditions.{State, is_end}
+use Rattle.checked_tree.specs.Conditions.{State}
 use Rattle.checked_tree.specs.Eval.{test, check_of}
 use Rattle.deputy_rules.specs.declared.asked.AskedCond.TheVariants as asked
 use Rattle.deputy_rules.specs.declared.derived.Place.{Place}
 use Rattle.deputy_rules.specs.Changes.{union_address, loaded, ask_kept, optional_kept, tag_change, tagged, unions_of}
 use Rattle.deputy_rules.specs.Context.{Context}
-use Rattle.deputy_rules.specs.Deriving.{Deriving, pure, ask}
+use Rattle.deputy_rules.specs.Deriving.{ask}
 use Rattle.deputy_rules.specs.Sums.{beyond}
-use Rattle.deputy_rules.specs.SumValues.{part_at, parts_at, PartHasValue, HasValue}
-use Rattle.driver_safety.specs.Passing.{sum_at, IsInside, clear_at, new_at, IsTested}
-use Rattle.driver_safety.proofs.checks.Evaluations.{safe_weaker, Pass, pass_none, pass_one}
+use Rattle.deputy_rules.specs.SumValues.{part_at, PartHasValue, HasValue}
+use Rattle.driver_safety.specs.Passing.{sum_at, IsInside, clear_at, IsTested}
+use Rattle.driver_safety.proofs.checks.Evaluations.{safe_weaker, Pass, pass_one}
 use Rattle.driver_safety.proofs.checks.Sounding.{Sound, then_sound, pure_sound, ask_sound, weaker}
 use Rattle.deputy_rules.proofs.SumsHave.{has_beyond, has_with_part}
 

@@ -1,6 +1,6 @@
 -- The bounds of a pointer that a statement takes with it: sums that stay below the machine's limit have the values that they have where
 -- nothing is limited.
-use Rattle.std.proofs.Common.{◌≡◌, ℕ, ◌+◌, ◌*◌, ◌^◌, ◌<◌, ◌≤◌, IsTrue, List, [], ◌∷◌, ℤ, pos, negsuc, ◌+ℤ◌, ◌*ℤ◌, unsigned_abs, Ok, refl}
+use Rattle.std.proofs.Common.{◌≡◌, ◌+◌, ◌^◌, ◌<◌, ◌≤◌, IsTrue, List, [], ◌∷◌, ℤ, pos, negsuc, ◌+ℤ◌, ◌*ℤ◌, unsigned_abs, Ok, refl}
 use Rattle.std.proofs.Common.{sym, ap, subst, ◌∙◌, arith}
 use Rattle.std.proofs.lemmas.Int.{ints, unsigned_abs-mul}
 use Rattle.std.proofs.lemmas.Nat.{mul-le}
@@ -8,7 +8,7 @@ use Rattle.dep_expr.proofs.Weights.{abs-add}
 use Rattle.checked_tree.specs.declared.sums.Part.{Part}
 use Rattle.checked_tree.specs.declared.sums.Part.TheVariants.{Constant, Atom}
 use Rattle.checked_tree.specs.declared.sums.Sum.{Sum}
-use Rattle.checked_tree.specs.Conditions.{State, peek}
+use Rattle.checked_tree.specs.Conditions.{State}
 use Rattle.checked_tree.specs.Light.{reach, reach_of}
 use Rattle.checked_tree.specs.Numbers.{is_value, sum_limit, limited}
 use Rattle.checked_tree.specs.Operands.{part_value, parts_from, sum_value}

@@ -1,16 +1,15 @@
 -- An assignment to a field or an arm is not wild, and leaves a good memory: what is assigned fits the member's type, each pointer whose
 -- annotation names the member fits
 -- with the new value, and a tag keeps its value or its union is clear.
-use Rattle.std.proofs.Common.{◌≡◌, ◌≢◌, ◌⊎◌, inl, inr, ℕ, zero, suc, ◌+◌, ◌-◌, ◌*◌, ◌^◌, ◌≤◌, ◌<◌, ◌==◌, IsTrue, Bool, true, false, List}
+use Rattle.std.proofs.Common.{◌≡◌, ◌≢◌, ◌⊎◌, inl, inr, ℕ, ◌+◌, ◌*◌, ◌^◌, ◌≤◌, ◌<◌, ◌==◌, IsTrue, Bool, true, false, List}
 use Rattle.std.proofs.Common.{[], ◌∷◌, ◌++◌, All, length, map, ℤ, pos, negsuc, ◌+ℤ◌, ◌*ℤ◌, neg_ℤ, Option, Some, None, find, option_map}
-use Rattle.std.proofs.Common.{unwrap_or, Ok, Err, slice_get, if◌then◌else◌, refl, sym, ap, ◌∙◌, subst, true≢false, arith}
+use Rattle.std.proofs.Common.{unwrap_or, Ok, slice_get, refl, sym, ap, ◌∙◌, subst, arith}
 use Rattle.std.proofs.lemmas.Bool.Decides.{Decides-eqb}
 use Rattle.std.proofs.lemmas.Int.{ints}
 use Rattle.std.proofs.lemmas.List.Elements.{All-head, All-tail}
-use Rattle.sd_base.specs.Blocks.{Block, block_end}
-use Rattle.byte_memory.specs.Bytes.{little_endian, low_bytes, bytes_at, overwritten}
+use Rattle.sd_base.specs.Blocks.{Block}
+use Rattle.byte_memory.specs.Bytes.{little_endian, bytes_at, overwritten}
 use Rattle.byte_memory.specs.Tested.{is_inside}
-use Rattle.checked_tree.specs.declared.expressions.CheckedExpr.{CheckedExpr}
 use Rattle.checked_tree.specs.declared.expressions.CheckedExpr.TheVariants as form
 use Rattle.checked_tree.specs.declared.shapes.Bounds.{Bounds}
 use Rattle.checked_tree.specs.declared.shapes.Bounds.TheVariants as bounds
@@ -22,7 +21,6 @@ use Rattle.checked_tree.specs.declared.shapes.Shape.{Shape}
 use Rattle.checked_tree.specs.declared.shapes.Shape.TheVariants as shape
 use Rattle.checked_tree.specs.declared.shapes.StructShape.{StructShape}
 use Rattle.checked_tree.specs.declared.shapes.UnionShape.{UnionShape}
-use Rattle.checked_tree.specs.declared.statements.CheckedStmt.{CheckedStmt, out-CheckedStmt}
 use Rattle.checked_tree.specs.declared.statements.CheckedStmt.TheVariants as statement
 use Rattle.checked_tree.specs.declared.sums.Part.{Part}
 use Rattle.checked_tree.specs.declared.sums.Sum.{Sum}
@@ -32,16 +30,15 @@ use Rattle.checked_tree.specs.Conditions.{State, peek}
 use Rattle.checked_tree.specs.Edges.{edge_value, edge_from, edge_base}
 use Rattle.checked_tree.specs.Eval.{eval, tests}
 use Rattle.checked_tree.specs.Memory.{load, store, value_from}
-use Rattle.checked_tree.specs.Numbers.{converted, is_of, is_value, is_word, low_bits, scalar_size}
+use Rattle.checked_tree.specs.Numbers.{converted, is_of, is_value, is_word, scalar_size}
 use Rattle.checked_tree.specs.Operands.{taken}
-use Rattle.checked_tree.specs.Outcome.{Outcome, Got, ◌>>=◌, Safe}
+use Rattle.checked_tree.specs.Outcome.{Got, ◌>>=◌, Safe}
 use Rattle.checked_tree.proofs.NumberRanges.{of_value, converted_of}
 use Rattle.checked_tree.proofs.Outcomes.{safe_bind}
 use Rattle.checked_tree.proofs.Peeking.{eval_peek}
 use Rattle.deputy_types.specs.declared.element.Element.{Element}
 use Rattle.deputy_types.specs.Fitting.{Fits, null, in_text, in_bounds, HoldsFitting, AreZero, shape_size, place_value, member_value}
 use Rattle.deputy_types.specs.Table.{member, members_of, element_at}
-use Rattle.deputy_types.proofs.Inversions.{some_then}
 use Rattle.deputy_rules.specs.declared.derived.Derived.{Derived}
 use Rattle.deputy_rules.specs.declared.derived.Derived.TheVariants as derived
 use Rattle.deputy_rules.specs.declared.derived.Place.{Place}
@@ -56,15 +53,14 @@ use Rattle.deputy_rules.specs.Assignment.{store_number, store_pointer, store_mem
 use Rattle.deputy_rules.specs.Changes.{changed, shape_of, member_changes, loaded as loaded_part, tagged, unions_of}
 use Rattle.deputy_rules.specs.Coercion.{converted_side, handed, coerce_to}
 use Rattle.deputy_rules.specs.Context.{Context}
-use Rattle.deputy_rules.specs.Deriving.{Deriving, lift, pure}
 use Rattle.deputy_rules.specs.NameValues.{AreOnce, IsNamed, IsNumber, IsStructPlace}
 use Rattle.deputy_rules.specs.Sums.{sum_of}
 use Rattle.deputy_rules.specs.SumValues.{got_or_zero, part_at, parts_at, PartHasValue, HasValue}
-use Rattle.deputy_rules.specs.Values.{container, integer_of, loaded_as, of_struct, is_nullterm}
+use Rattle.deputy_rules.specs.Values.{container, integer_of, loaded_as, of_struct}
 use Rattle.deputy_rules.proofs.SumsHave.{atom_is, atom_reads}
-use Rattle.driver_safety.specs.Derivations.{IsWhole, IsPlace, IsMemberAt, LiesAt, IsValue, IsDerived}
+use Rattle.driver_safety.specs.Derivations.{IsPlace, LiesAt, IsValue, IsDerived}
 use Rattle.driver_safety.specs.Goodness.{IsGood, IsBlock}
-use Rattle.driver_safety.specs.Passing.{IsInside, place_of, clear_at}
+use Rattle.driver_safety.specs.Passing.{IsInside, clear_at}
 use Rattle.driver_safety.specs.StructPlaces.{IsLeaf}
 use Rattle.driver_safety.specs.TypeFacts.{HasTypes, HasSlots, IsInteger, IsDeclared, IsMemberOf, IsSibling, IsIntegerMember, IsBaseOf}
 use Rattle.driver_safety.specs.TypeFacts.{NamesSiblings, ShapeNamesSiblings, ShapeNamesOthers}
@@ -73,8 +69,8 @@ use Rattle.driver_safety.proofs.assignments.ElementStores.{bytes_for, word_store
 use Rattle.driver_safety.proofs.assignments.HandedRules.{IsHanded, coerce_to_sound}
 use Rattle.driver_safety.proofs.assignments.Handing.{Hands, handed_sound}
 use Rattle.driver_safety.proofs.assignments.KeptRules.{KeepsTag}
-use Rattle.driver_safety.proofs.assignments.MemberNames.{renamed, all_renamed, OthersHold, others_hold}
-use Rattle.driver_safety.proofs.assignments.MemberStores.{structure, known, base, IsHere, is_here, after, Keeps, member_stays}
+use Rattle.driver_safety.proofs.assignments.MemberNames.{renamed, all_renamed, others_hold}
+use Rattle.driver_safety.proofs.assignments.MemberStores.{structure, known, base, IsHere, is_here, Keeps, member_stays}
 use Rattle.driver_safety.proofs.assignments.MemberStores.{member_stored}
 use Rattle.driver_safety.proofs.assignments.SiblingRules.{OthersKeep, AllRenamed, siblings_kept}
 use Rattle.driver_safety.proofs.assignments.SlotAssign.{Leaves, taken_is, word_taken}

@@ -1,11 +1,10 @@
 -- The siblings of a member that has a new value: which of them the checks of kind Change keep fitting, member by member.
-use Rattle.std.proofs.Common.{◌≡◌, ◌≢◌, ℕ, zero, suc, ◌+◌, ◌*◌, ◌<◌, ◌≤◌, ◌==◌, IsTrue, Bool, true, false, List, [], ◌∷◌, All, map, ℤ, pos}
-use Rattle.std.proofs.Common.{◌+ℤ◌, ◌*ℤ◌, Option, Some, None, is_some, option_map, unwrap_or, Ok, slice_get, if◌then◌else◌, refl, sym, ap}
+use Rattle.std.proofs.Common.{◌≡◌, ◌≢◌, ℕ, zero, suc, ◌+◌, Bool, true, false, List, [], ◌∷◌, All, map, ℤ, pos}
+use Rattle.std.proofs.Common.{◌+ℤ◌, ◌*ℤ◌, Option, Some, None, is_some, option_map, unwrap_or, slice_get, if◌then◌else◌, refl, sym, ap}
 use Rattle.std.proofs.Common.{◌∙◌, subst, arith}
 use Rattle.std.proofs.lemmas.List.Elements.{All-head, All-tail}
 use Rattle.sd_base.specs.Blocks.{Block}
 use Rattle.checked_tree.specs.declared.expressions.CheckedExpr.{CheckedExpr}
-use Rattle.checked_tree.specs.declared.shapes.Bounds.{Bounds}
 use Rattle.checked_tree.specs.declared.shapes.Bounds.TheVariants as bounds
 use Rattle.checked_tree.specs.declared.shapes.Edge.{Edge}
 use Rattle.checked_tree.specs.declared.shapes.Member.{Member}
@@ -17,16 +16,16 @@ use Rattle.checked_tree.specs.declared.sums.Sum.{Sum}
 use Rattle.checked_tree.specs.declared.units.CheckedFn.{CheckedFn}
 use Rattle.checked_tree.specs.Conditions.{State}
 use Rattle.checked_tree.specs.Edges.{edge_value, edge_from, edge_base}
-use Rattle.deputy_types.specs.Fitting.{Fits, FitsBounds, HoldsFitting, place_value, member_value}
+use Rattle.deputy_types.specs.Fitting.{Fits, HoldsFitting, place_value, member_value}
 use Rattle.deputy_rules.specs.declared.naming.Names.TheVariants as names
 use Rattle.deputy_rules.specs.declared.naming.Naming.{Naming}
 use Rattle.deputy_rules.specs.Changes.{changed, shape_of}
 use Rattle.deputy_rules.specs.Context.{Context}
 use Rattle.deputy_rules.specs.NameValues.{AreOnce, IsNamed, IsNumber, IsStructPlace}
 use Rattle.deputy_rules.specs.SumValues.{HasValue}
-use Rattle.deputy_rules.specs.Values.{name_sum, of_struct}
-use Rattle.driver_safety.specs.TypeFacts.{HasTypes, IsMemberOf, IsSibling, IsIntegerMember, IsBaseOf, NamesSiblings, ShapeNamesSiblings}
-use Rattle.driver_safety.proofs.assignments.SiblingRules.{Renames, ShapeFits, OthersKeep, ShapeRenames, AllRenamed}
+use Rattle.deputy_rules.specs.Values.{of_struct}
+use Rattle.driver_safety.specs.TypeFacts.{HasTypes, IsMemberOf, IsSibling, IsBaseOf, NamesSiblings, ShapeNamesSiblings}
+use Rattle.driver_safety.proofs.assignments.SiblingRules.{ShapeFits, OthersKeep, ShapeRenames, AllRenamed}
 use Rattle.driver_safety.proofs.assignments.StructNames.{old_has, old_names, new_names, agree_names}
 
 some_same : {A : Type 0} (a b : A) → ◌≡◌ {A = Option A} (Some a) (Some b) → a ≡ b

@@ -1,67 +1,44 @@
 -- Stores to members of structs, arms of unions among them, leave a good memory.
-use Rattle.std.proofs.Common.{◌≡◌, ◌≢◌, ◌⊎◌, inl, inr, ℕ, zero, suc, ◌+◌, ◌-◌, ◌*◌, ◌%◌, ◌^◌, ◌≤◌, ◌<◌, ◌==◌, nat_lt, cond, IsTrue, Bool}
-use Rattle.std.proofs.Common.{true, false, ◌&&◌, List, [], ◌∷◌, ◌++◌, All, length, map, take, drop, get_or, ℤ, pos, negsuc, ◌+ℤ◌, ◌*ℤ◌}
-use Rattle.std.proofs.Common.{neg_ℤ, Option, Some, None, find, option_map, unwrap_or, Ok, Err, slice_get, slice_index_or, if◌then◌else◌}
+use Rattle.std.proofs.Common.{◌≡◌, ◌≢◌, ℕ, ◌+◌, ◌*◌, ◌≤◌, IsTrue}
+use Rattle.std.proofs.Common.{true, List, length, ℤ, pos}
+use Rattle.std.proofs.Common.{Option, Some, None, option_map, unwrap_or, Ok, slice_get}
 use Rattle.std.proofs.Common.{refl, sym, ap, ◌∙◌, subst, true≢false, arith}
-use Rattle.std.specs.List.{Contains, list_all}
-use Rattle.std.proofs.lemmas.Bool.Decides.{Decides-eqb}
-use Rattle.std.proofs.lemmas.Int.{ints}
-use Rattle.std.proofs.lemmas.List.{get_or-drop}
 use Rattle.std.proofs.lemmas.Option.{slice_get_within, get_or_from_slice_get}
 use Rattle.driver_safety.proofs.checks.Evaluations.{safe_same}
 use Rattle.sd_base.specs.Blocks.{Block, block_end}
-use Rattle.byte_memory.specs.Bytes.{little_endian, low_bytes, bytes_at, overwritten}
+use Rattle.byte_memory.specs.Bytes.{overwritten}
 use Rattle.byte_memory.specs.Tested.{Memory, is_inside}
 use Rattle.byte_memory.proofs.Addresses.{length-low_bytes}
 use Rattle.checked_tree.specs.declared.expressions.CheckedExpr.{CheckedExpr}
-use Rattle.checked_tree.specs.declared.expressions.CheckedExpr.TheVariants as form
-use Rattle.checked_tree.specs.declared.shapes.Bounds.{Bounds}
-use Rattle.checked_tree.specs.declared.shapes.Bounds.TheVariants as bounds
-use Rattle.checked_tree.specs.declared.shapes.Edge.{Edge}
 use Rattle.checked_tree.specs.declared.shapes.Member.{Member}
 use Rattle.checked_tree.specs.declared.shapes.Scalar.{Scalar}
-use Rattle.checked_tree.specs.declared.shapes.Scalar.TheVariants.{Pointer}
 use Rattle.checked_tree.specs.declared.shapes.Shape.{Shape}
 use Rattle.checked_tree.specs.declared.shapes.Shape.TheVariants as shape
 use Rattle.checked_tree.specs.declared.shapes.StructShape.{StructShape}
-use Rattle.checked_tree.specs.declared.shapes.UnionShape.{UnionShape}
-use Rattle.checked_tree.specs.declared.statements.CheckedStmt.{CheckedStmt, out-CheckedStmt}
-use Rattle.checked_tree.specs.declared.statements.CheckedStmt.TheVariants as statement
-use Rattle.checked_tree.specs.declared.sums.Part.{Part}
-use Rattle.checked_tree.specs.declared.sums.Sum.{Sum}
 use Rattle.checked_tree.specs.declared.units.CheckedFn.{CheckedFn}
-use Rattle.checked_tree.specs.Act.{act, remembers, On}
+use Rattle.checked_tree.specs.Act.{remembers, On}
 use Rattle.checked_tree.specs.Conditions.{State, peek}
-use Rattle.checked_tree.specs.Eval.{eval, tests}
 use Rattle.checked_tree.specs.Memory.{store}
-use Rattle.checked_tree.specs.Numbers.{converted, is_of, is_word, low_bits, scalar_size}
-use Rattle.checked_tree.specs.Operands.{taken}
+use Rattle.checked_tree.specs.Numbers.{low_bits, scalar_size}
 use Rattle.checked_tree.specs.Outcome.{Outcome, Got, ◌>>=◌, Safe}
-use Rattle.checked_tree.proofs.NumberRanges.{converted_of}
-use Rattle.checked_tree.proofs.Outcomes.{safe_bind}
 use Rattle.layout_laws.proofs.ZeroFits.{lies_in}
-use Rattle.deputy_types.specs.declared.element.Element.{Element}
-use Rattle.deputy_types.specs.Fitting.{Fits, FitsBounds, HoldsFitting, BytesFit, AreZero, Part as Lies, is_any, is_used, elem_bytes}
-use Rattle.deputy_types.specs.Fitting.{shape_size, place_value, member_value}
-use Rattle.deputy_types.specs.Table.{member, members_of}
-use Rattle.deputy_rules.specs.declared.derived.Derived.{Derived}
-use Rattle.deputy_rules.specs.declared.derived.Derived.TheVariants as derived
-use Rattle.deputy_rules.specs.declared.derived.Place.{Place}
+use Rattle.deputy_types.specs.Fitting.{BytesFit, Part as Lies, is_any, is_used, elem_bytes}
+use Rattle.deputy_types.specs.Fitting.{shape_size, member_value}
+use Rattle.deputy_types.specs.Table.{member}
 use Rattle.deputy_rules.specs.Context.{Context}
-use Rattle.deputy_rules.specs.NameValues.{IsNamed, IsNumber, IsStructPlace}
-use Rattle.deputy_rules.specs.SumValues.{got_or_zero, HasValue}
-use Rattle.deputy_rules.specs.Values.{container, loaded_as}
-use Rattle.driver_safety.specs.Derivations.{IsPlace, IsStructAt, IsMemberAt, IsDerived}
+use Rattle.deputy_rules.specs.SumValues.{got_or_zero}
+use Rattle.deputy_rules.specs.Values.{container}
+use Rattle.driver_safety.specs.Derivations.{IsStructAt, IsMemberAt}
 use Rattle.driver_safety.specs.Goodness.{IsGood, IsBlock, IsMemory}
 use Rattle.driver_safety.specs.Passing.{place_of}
 use Rattle.driver_safety.specs.Reaching.{IsOpenAt}
 use Rattle.driver_safety.specs.StructPlaces.{IsLeaf}
-use Rattle.driver_safety.specs.TypeFacts.{HasTypes, HasSlots, IsMemberOf}
+use Rattle.driver_safety.specs.TypeFacts.{HasTypes, HasSlots}
 use Rattle.driver_safety.proofs.assignments.ElementStores.{bytes_for, store_is, with_memory}
 use Rattle.driver_safety.proofs.expressions.ReadRules.{member_found, struct_block}
-use Rattle.driver_safety.proofs.memory.Lying.{any_part, IsWithin, open_within, inside_block, below_block, member_within}
+use Rattle.driver_safety.proofs.memory.Lying.{any_part, IsWithin, inside_block, below_block, member_within}
 use Rattle.driver_safety.proofs.memory.MemberWrites.{KeepsStruct, stays_plain, member_written}
-use Rattle.driver_safety.proofs.memory.Writes.{low_small, element_from, KeepsBlock, own_block, one_element, memory_next}
+use Rattle.driver_safety.proofs.memory.Writes.{low_small, element_from, one_element, memory_next}
 
 some_same : {A : Type 0} (a b : A) → ◌≡◌ {A = Option A} (Some a) (Some b) → a ≡ b
 some_same a b h = cc

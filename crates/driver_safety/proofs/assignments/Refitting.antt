@@ -1,12 +1,12 @@
 -- Two numbers of the same element: what fits by the one fits by the other.
-use Rattle.std.proofs.Common.{◌≡◌, ℕ, ◌+◌, ◌-◌, ◌*◌, ◌≤◌, Bool, List, ℤ, Option, Some, option_map, unwrap_or, slice_get, refl, sym, ap, ◌∙◌}
+use Rattle.std.proofs.Common.{◌≡◌, ℕ, ◌+◌, ◌-◌, ◌*◌, ◌≤◌, Bool, List, ℤ, Option, Some, option_map, unwrap_or, slice_get, sym, ap, ◌∙◌}
 use Rattle.std.proofs.Common.{subst}
 use Rattle.sd_base.specs.Blocks.{Block}
 use Rattle.checked_tree.specs.declared.shapes.Shape.{Shape}
 use Rattle.checked_tree.specs.declared.shapes.StructShape.{StructShape}
 use Rattle.deputy_types.specs.declared.element.Element.{Element}
 use Rattle.deputy_rules.specs.Context.{Context}
-use Rattle.deputy_types.specs.Fitting.{Fits, null, in_text, in_bounds, IsBounded, IsOpenPlace, elem_bytes, shape_size}
+use Rattle.deputy_types.specs.Fitting.{Fits, null, in_text, in_bounds, IsOpenPlace, elem_bytes, shape_size}
 use Rattle.deputy_types.specs.StructLaws.{IsMultiple}
 use Rattle.deputy_types.specs.Table.{element_at}
 use Rattle.driver_safety.specs.TypeFacts.{HasTypes}

@@ -1,32 +1,30 @@
 -- Assignment with siblings: what the checks of kind Change leave fits with the new value.
-use Rattle.std.proofs.Common.{◌≡◌, ◌≢◌, ◌⊎◌, inl, inr, ℕ, ◌+◌, ◌==◌, IsTrue, Bool, true, false, ◌||◌, List, [], ◌∷◌, ◌++◌, ℤ, pos, ◌+ℤ◌}
-use Rattle.std.proofs.Common.{◌*ℤ◌, Option, Some, None, if◌then◌else◌, refl, sym, ap, ◌∙◌, subst, true≢false}
+use Rattle.std.proofs.Common.{◌≡◌, ◌≢◌, ℕ, ◌+◌, ◌==◌, Bool, true, false, ◌||◌, List, [], ◌∷◌, ◌++◌, ℤ, ◌+ℤ◌}
+use Rattle.std.proofs.Common.{◌*ℤ◌, Option, Some, None, refl, sym, ap, ◌∙◌, subst, true≢false}
 use Rattle.std.specs.List.{list_any}
 use Rattle.std.proofs.lemmas.Bool.Decides.{Decides-eqb}
 use Rattle.sd_base.specs.Blocks.{Block}
 use Rattle.sd_base.specs.declared.kinds.CheckKind.TheVariants as kind
-use Rattle.checked_tree.specs.declared.shapes.Bounds.{Bounds}
 use Rattle.checked_tree.specs.declared.shapes.Bounds.TheVariants as bounds
 use Rattle.checked_tree.specs.declared.shapes.Edge.{Edge}
 use Rattle.checked_tree.specs.declared.shapes.Shape.{Shape}
 use Rattle.checked_tree.specs.declared.shapes.Shape.TheVariants as shape
-use Rattle.checked_tree.specs.declared.sums.Sum.{Sum}
 use Rattle.checked_tree.specs.declared.units.CheckedFn.{CheckedFn}
 use Rattle.checked_tree.specs.Conditions.{State}
 use Rattle.checked_tree.specs.Edges.{edge_value, edge_from, edge_base}
 use Rattle.checked_tree.specs.Eval.{tests}
 use Rattle.deputy_types.specs.declared.element.Element.{Element}
 use Rattle.deputy_rules.specs.declared.naming.Naming.{Naming}
-use Rattle.deputy_rules.specs.Changes.{pointer_change, change_at, sibling_change, optional_change, sibling_changes}
+use Rattle.deputy_rules.specs.Changes.{pointer_change, sibling_change, optional_change, sibling_changes}
 use Rattle.deputy_rules.specs.Context.{Context}
-use Rattle.deputy_rules.specs.Deriving.{Deriving, pure, lift}
-use Rattle.deputy_types.specs.Fitting.{Fits, FitsBounds}
+use Rattle.deputy_rules.specs.Deriving.{pure}
+use Rattle.deputy_types.specs.Fitting.{Fits}
 use Rattle.deputy_types.specs.Table.{bounds_name, edge_names, is_base, element_at}
 use Rattle.deputy_rules.specs.Values.{size_of, name_sum, low_sum, high_sum, edge_sum}
 use Rattle.deputy_rules.specs.SumValues.{HasValue}
 use Rattle.driver_safety.specs.TypeFacts.{HasTypes}
 use Rattle.driver_safety.proofs.assignments.ElementSizes.{element_size}
-use Rattle.driver_safety.proofs.assignments.Coercions.{IsNarrower, Excused, Narrows, coerce_sound, narrow}
+use Rattle.driver_safety.proofs.assignments.Coercions.{coerce_sound, narrow}
 use Rattle.deputy_rules.specs.NameValues.{HaveNames}
 use Rattle.deputy_rules.proofs.EdgesHave.{has_edge}
 use Rattle.driver_safety.proofs.checks.Evaluations.{safe_weaker, Pass, pass_none, pass_then}

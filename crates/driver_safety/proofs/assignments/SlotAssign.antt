@@ -1,16 +1,13 @@
 -- An assignment to a local is not wild, and leaves a good frame: what is assigned fits the local's type, and each pointer whose annotation
 -- names the local fits with the
 -- new value.
-use Rattle.std.proofs.Common.{◌≡◌, ◌≢◌, ◌⊎◌, inl, inr, ℕ, zero, suc, ◌+◌, ◌<◌, ◌^◌, ◌==◌, nat_lt, IsTrue, Bool, true, false, List, [], ◌∷◌}
-use Rattle.std.proofs.Common.{◌++◌, All, length, get_or, set, ℤ, pos, negsuc, ◌+ℤ◌, ◌*ℤ◌, Option, Some, None, Ok, Err, slice_get, slice_set}
-use Rattle.std.proofs.Common.{slice_index_or, if◌then◌else◌, refl, sym, ap, ◌∙◌, subst, true≢false, arith}
-use Rattle.std.specs.Ordering.{int_eq}
-use Rattle.std.proofs.lemmas.Bool.{lt-ltb}
-use Rattle.std.proofs.lemmas.Bool.Decides.{Decides-eqb, Decides-int_eq}
+use Rattle.std.proofs.Common.{◌≡◌, ◌≢◌, ℕ, ◌+◌, ◌<◌, ◌==◌, IsTrue, Bool, true, false, List, [], ◌∷◌}
+use Rattle.std.proofs.Common.{◌++◌, All, ℤ, pos, negsuc, ◌+ℤ◌, ◌*ℤ◌, Option, Some, None, Ok, Err}
+use Rattle.std.proofs.Common.{if◌then◌else◌, refl, sym, ap, ◌∙◌, subst, true≢false}
+use Rattle.std.proofs.lemmas.Bool.Decides.{Decides-eqb}
 use Rattle.std.proofs.lemmas.List.{get_or-set_same, get_or-set_other, length-set}
 use Rattle.std.proofs.lemmas.List.Elements.{All-head, All-tail}
 use Rattle.sd_base.specs.Blocks.{Block}
-use Rattle.c_tree.specs.Slots.{hidden_slot}
 use Rattle.sd_base.specs.declared.actors.Fat.{Fat}
 use Rattle.checked_tree.specs.declared.shapes.Bounds.{Bounds}
 use Rattle.checked_tree.specs.declared.shapes.Bounds.TheVariants as bounds
@@ -24,46 +21,40 @@ use Rattle.checked_tree.specs.declared.statements.CheckedStmt.TheVariants as sta
 use Rattle.checked_tree.specs.declared.stops.Stop.TheVariants.{Wild}
 use Rattle.checked_tree.specs.declared.sums.Sum.{Sum}
 use Rattle.checked_tree.specs.declared.units.CheckedFn.{CheckedFn}
-use Rattle.checked_tree.specs.Act.{act, goes_on, with_local, pointer_set, with_pointer, On}
+use Rattle.checked_tree.specs.Act.{act, goes_on, with_local, On}
 use Rattle.checked_tree.specs.Conditions.{State}
 use Rattle.checked_tree.specs.Edges.{edge_value, edge_from, edge_base}
 use Rattle.checked_tree.specs.Eval.{eval, tests}
-use Rattle.checked_tree.specs.Light.{reach_of}
-use Rattle.checked_tree.specs.Numbers.{address, converted, is_of, is_value, is_word, sum_limit, word_of}
-use Rattle.checked_tree.specs.Operands.{null, bounded, with_bounds, operand, sum_value, taken}
+use Rattle.checked_tree.specs.Numbers.{converted, is_of, is_value, is_word, word_of}
+use Rattle.checked_tree.specs.Operands.{null, taken}
 use Rattle.checked_tree.specs.Outcome.{Outcome, Got, ◌>>=◌, Safe}
 use Rattle.checked_tree.proofs.NumberRanges.{of_value, converted_of, word_value}
 use Rattle.checked_tree.proofs.Outcomes.{safe_bind}
 use Rattle.deputy_types.specs.declared.element.Element.{Element}
-use Rattle.deputy_types.specs.Fitting.{Fits, null as nowhere, in_text, in_bounds, FitsBounds}
+use Rattle.deputy_types.specs.Fitting.{Fits, null as nowhere, in_text, in_bounds}
 use Rattle.deputy_types.specs.Table.{element_at}
-use Rattle.deputy_types.proofs.Inversions.{some_then}
-use Rattle.deputy_rules.specs.declared.derived.Derived.{Derived}
 use Rattle.deputy_rules.specs.declared.derived.Value.TheVariants as value
 use Rattle.deputy_rules.specs.declared.derived.Whole.{Whole}
 use Rattle.deputy_rules.specs.declared.handed.Handed.{Handed}
 use Rattle.deputy_rules.specs.declared.naming.Names.TheVariants as names
-use Rattle.deputy_rules.specs.Assignment.{assign_integer, assign_automatic, assign_annotated, assign_pointer, assign_local}
-use Rattle.deputy_rules.specs.Changes.{changed, slot_changes, sibling_changes}
-use Rattle.deputy_rules.specs.Coercion.{converted_side, handed, coerce_to}
+use Rattle.deputy_rules.specs.Assignment.{assign_integer, assign_annotated}
+use Rattle.deputy_rules.specs.Changes.{changed, slot_changes}
+use Rattle.deputy_rules.specs.Coercion.{converted_side, coerce_to}
 use Rattle.deputy_rules.specs.Context.{Context, slot_shape}
-use Rattle.deputy_rules.specs.Deriving.{Deriving, lift, pure}
-use Rattle.deputy_rules.specs.NameValues.{AreOnce, IsNumber, local_at}
+use Rattle.deputy_rules.specs.NameValues.{AreOnce, local_at}
 use Rattle.deputy_rules.specs.Sums.{sum_of}
 use Rattle.deputy_rules.specs.SumValues.{got_or_zero, HasValue}
-use Rattle.deputy_rules.specs.Values.{integer_of, of_slots}
-use Rattle.driver_safety.specs.Derivations.{IsWhole, IsValue, IsDerived}
-use Rattle.driver_safety.specs.Goodness.{IsGood, SlotHolds, SlotFits, FitsHidden}
-use Rattle.driver_safety.specs.TypeFacts.{HasTypes, HasSlots, IsInteger, IsSlotShape, IsNamedSlot, IsIntegerSlot, IsBaseSlot, NamesSlots}
+use Rattle.deputy_rules.specs.Values.{of_slots}
+use Rattle.driver_safety.specs.Derivations.{IsValue}
+use Rattle.driver_safety.specs.Goodness.{IsGood, SlotHolds, SlotFits}
+use Rattle.driver_safety.specs.TypeFacts.{HasTypes, HasSlots, IsInteger, IsIntegerSlot, NamesSlots}
 use Rattle.driver_safety.proofs.assignments.Conversions.{converted_has, converted_once}
 use Rattle.driver_safety.proofs.assignments.HandedRules.{IsHanded, coerce_to_sound}
-use Rattle.driver_safety.proofs.assignments.Handing.{Hands, handed_sound}
-use Rattle.driver_safety.proofs.assignments.LightBounds.{sum_is}
+use Rattle.driver_safety.proofs.assignments.Handing.{Hands}
 use Rattle.driver_safety.proofs.assignments.SiblingRules.{OthersKeep, siblings_kept}
 use Rattle.driver_safety.proofs.assignments.SlotChanges.{IsPlainSlot, IsNext, slots_have, all_renamed, frame_next}
 use Rattle.driver_safety.proofs.checks.Evaluations.{safe_same, safe_weaker, Pass, pass_none, pass_then}
-use Rattle.driver_safety.proofs.checks.Sounding.{Sound, then_sound, pure_sound, lift_sound, none_sound, weaker}
-use Rattle.driver_safety.proofs.expressions.OperatorRules.{integer_sound}
+use Rattle.driver_safety.proofs.checks.Sounding.{Sound, then_sound, pure_sound, weaker}
 use Rattle.driver_safety.proofs.expressions.PlaceRules.{safe_step}
 use Rattle.driver_safety.proofs.expressions.ReadRules.{no_void}
 

@@ -1,14 +1,12 @@
 -- A slot with a new value: where its own pointers and those of its siblings fit then, the frame is good. What the checks of kind Change ask
 -- for is what the siblings need.
-use Rattle.std.proofs.Common.{◌≡◌, ◌≢◌, ◌⊎◌, inl, inr, ℕ, zero, suc, ◌+◌, ◌<◌, ◌==◌, IsTrue, Bool, true, false, List, [], ◌∷◌, All, length}
+use Rattle.std.proofs.Common.{◌≡◌, ◌≢◌, ℕ, zero, suc, ◌+◌, ◌<◌, ◌==◌, IsTrue, Bool, true, false, List, [], ◌∷◌, All, length}
 use Rattle.std.proofs.Common.{ℤ, pos, Option, Some, None, slice_get, if◌then◌else◌, refl, sym, ap, ◌∙◌, subst, true≢false, arith}
 use Rattle.std.specs.Option.{option_flatten}
 use Rattle.std.proofs.lemmas.Bool.Decides.{Decides-eqb}
 use Rattle.std.proofs.lemmas.List.Elements.{All-head, All-tail}
 use Rattle.sd_base.specs.Blocks.{Block}
-use Rattle.byte_memory.specs.Tested.{Memory}
 use Rattle.c_tree.specs.Slots.{hidden_slot}
-use Rattle.checked_tree.specs.declared.shapes.Bounds.{Bounds}
 use Rattle.checked_tree.specs.declared.shapes.Bounds.TheVariants as bounds
 use Rattle.checked_tree.specs.declared.shapes.Edge.{Edge}
 use Rattle.checked_tree.specs.declared.shapes.Scalar.{Scalar}
@@ -26,9 +24,9 @@ use Rattle.deputy_rules.specs.Context.{Context, slot_shape}
 use Rattle.deputy_rules.specs.NameValues.{AreOnce, TermsHave, BaseHas, HaveNames, IsNumber, local_at}
 use Rattle.deputy_rules.specs.SumValues.{HasValue}
 use Rattle.deputy_rules.specs.Values.{name_sum, named_sum, slot_sum, of_slots}
-use Rattle.driver_safety.specs.Goodness.{IsGood, IsFrame, IsMemory, SlotHolds, SlotFits, FitsHidden}
-use Rattle.driver_safety.specs.TypeFacts.{HasTypes, HasSlots, IsInteger, IsSlotShape, IsNamedSlot, IsIntegerSlot, IsBaseSlot, NamesSlots}
-use Rattle.driver_safety.proofs.assignments.SiblingRules.{TermsAgree, BaseAgrees, Renames, ShapeFits, OthersKeep, ShapeRenames, AllRenamed}
+use Rattle.driver_safety.specs.Goodness.{IsGood, IsMemory, SlotHolds, FitsHidden}
+use Rattle.driver_safety.specs.TypeFacts.{HasTypes, HasSlots, IsNamedSlot, IsIntegerSlot, IsBaseSlot, NamesSlots}
+use Rattle.driver_safety.proofs.assignments.SiblingRules.{TermsAgree, BaseAgrees, ShapeFits, OthersKeep, ShapeRenames, AllRenamed}
 use Rattle.driver_safety.proofs.expressions.ReadRules.{slot_has}
 
 some_same : {A : Type 0} (a b : A) → ◌≡◌ {A = Option A} (Some a) (Some b) → a ≡ b

@@ -1,40 +1,35 @@
 -- The names of a struct place, as they are and with a new value for one member.
-use Rattle.std.proofs.Common.{◌≡◌, ◌≢◌, ℕ, zero, suc, ◌+◌, ◌==◌, IsTrue, Bool, true, false, List, [], ◌∷◌, ◌++◌, All, map, ℤ, pos, ◌+ℤ◌}
-use Rattle.std.proofs.Common.{◌*ℤ◌, Option, Some, None, is_some, option_map, unwrap_or, Ok, slice_get, if◌then◌else◌, refl, sym, ap, ◌∙◌}
+use Rattle.std.proofs.Common.{◌≡◌, ◌≢◌, ℕ, ◌==◌, Bool, true, false, List, [], ◌∷◌, ◌++◌, All, ℤ, pos, ◌+ℤ◌}
+use Rattle.std.proofs.Common.{Option, Some, None, slice_get, if◌then◌else◌, refl, sym, ◌∙◌}
 use Rattle.std.proofs.Common.{subst, true≢false, arith}
 use Rattle.std.proofs.lemmas.Bool.Decides.{Decides-eqb}
 use Rattle.std.proofs.lemmas.Int.{ints}
 use Rattle.std.proofs.lemmas.List.Elements.{All-nil, All-head, All-tail}
-use Rattle.sd_base.specs.Blocks.{Block}
 use Rattle.checked_tree.specs.declared.expressions.CheckedExpr.{CheckedExpr}
-use Rattle.checked_tree.specs.declared.shapes.Bounds.{Bounds}
-use Rattle.checked_tree.specs.declared.shapes.Bounds.TheVariants as bounds
 use Rattle.checked_tree.specs.declared.shapes.Edge.{Edge}
 use Rattle.checked_tree.specs.declared.shapes.Member.{Member}
 use Rattle.checked_tree.specs.declared.shapes.Scalar.{Scalar}
-use Rattle.checked_tree.specs.declared.shapes.Shape.{Shape}
 use Rattle.checked_tree.specs.declared.shapes.Shape.TheVariants as shape
 use Rattle.checked_tree.specs.declared.shapes.StructShape.{StructShape}
 use Rattle.checked_tree.specs.declared.sums.Part.{Part}
 use Rattle.checked_tree.specs.declared.sums.Part.TheVariants.{Constant}
 use Rattle.checked_tree.specs.declared.sums.Sum.{Sum}
-use Rattle.checked_tree.specs.declared.units.CheckedFn.{CheckedFn}
 use Rattle.checked_tree.specs.Conditions.{State}
 use Rattle.checked_tree.specs.Edges.{edge_value}
 use Rattle.deputy_types.specs.Fitting.{member_value}
 use Rattle.deputy_types.specs.Table.{member}
 use Rattle.deputy_rules.specs.declared.naming.Names.TheVariants as names
 use Rattle.deputy_rules.specs.declared.naming.Naming.{Naming}
-use Rattle.deputy_rules.specs.Changes.{changed, shape_of}
+use Rattle.deputy_rules.specs.Changes.{changed}
 use Rattle.deputy_rules.specs.Context.{Context}
 use Rattle.deputy_rules.specs.NameValues.{AreOnce, TermsHave, BaseHas, HaveNames, IsNamed, IsStructPlace}
 use Rattle.deputy_rules.specs.Sums.{constant}
-use Rattle.deputy_rules.specs.SumValues.{part_at, parts_at, HaveValues, HasValue}
+use Rattle.deputy_rules.specs.SumValues.{parts_at, HaveValues, HasValue}
 use Rattle.deputy_rules.specs.Values.{name_sum, named_sum, member_sum, edge_sum, of_struct}
 use Rattle.deputy_rules.proofs.NamesHave.{member_edge}
 use Rattle.deputy_rules.proofs.SumsHave.{has_constant, parts_both}
 use Rattle.driver_safety.specs.TypeFacts.{IsSibling, IsIntegerMember, IsBaseOf, NamesSiblings}
-use Rattle.driver_safety.proofs.assignments.SiblingRules.{TermsAgree, BaseAgrees, Renames}
+use Rattle.driver_safety.proofs.assignments.SiblingRules.{TermsAgree, BaseAgrees}
 
 some_same : {A : Type 0} (a b : A) → ◌≡◌ {A = Option A} (Some a) (Some b) → a ≡ b
 some_same a b h = cc

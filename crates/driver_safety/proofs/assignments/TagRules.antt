@@ -1,10 +1,9 @@
 -- A tag that changes: its union is clear, or it keeps its value.
-use Rattle.std.proofs.Common.{◌≡◌, ◌≢◌, ◌⊎◌, inl, inr, ℕ, zero, suc, ◌+◌, ◌-◌, ◌<◌, ◌==◌, cond, IsTrue, Bool, true, false, ◌&&◌, List, []}
-use Rattle.std.proofs.Common.{◌∷◌, take, drop, get_or, ℤ, pos, ◌+ℤ◌, neg_ℤ, Option, Some, None, find, slice_get, slice_index_or, refl, sym}
+use Rattle.std.proofs.Common.{◌≡◌, ℕ, zero, suc, ◌<◌, ◌==◌, cond, IsTrue, Bool, true, false, ◌&&◌, List, []}
+use Rattle.std.proofs.Common.{◌∷◌, take, drop, get_or, Option, Some, None, find, slice_get, refl, sym}
 use Rattle.std.proofs.Common.{ap, ◌∙◌, subst, arith}
 use Rattle.std.specs.List.{list_all}
 use Rattle.std.proofs.lemmas.Bool.Decides.{Decides-eqb}
-use Rattle.std.proofs.lemmas.Int.{ints}
 use Rattle.std.proofs.lemmas.List.{get_or-drop}
 use Rattle.byte_memory.specs.Bytes.{bytes_at}
 use Rattle.checked_tree.specs.declared.shapes.Scalar.{Scalar}
@@ -16,7 +15,6 @@ use Rattle.deputy_types.specs.Fitting.{AreZero}
 use Rattle.deputy_rules.specs.declared.derived.Place.{Place}
 use Rattle.deputy_rules.specs.Changes.{tag_change, tagged, unions_of, optional_kept}
 use Rattle.deputy_rules.specs.Context.{Context}
-use Rattle.deputy_rules.specs.Deriving.{Deriving, pure}
 use Rattle.driver_safety.proofs.assignments.KeptRules.{KeepsTag, tag_sound}
 use Rattle.driver_safety.proofs.checks.Evaluations.{Pass, pass_none}
 use Rattle.driver_safety.proofs.checks.Sounding.{Sound, pure_sound, weaker}

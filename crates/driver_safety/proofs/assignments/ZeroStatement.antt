@@ -1,8 +1,7 @@
 -- `zero(l)` is not wild, and leaves a good memory: each arm that a tag may select holds 0 then.
-use Rattle.std.proofs.Common.{◌≡◌, ◌≢◌, ℕ, zero, suc, ◌+◌, ◌*◌, ◌^◌, ◌≤◌, ◌<◌, IsTrue, Bool, true, false, List, [], ◌∷◌, All, length, ℤ}
+use Rattle.std.proofs.Common.{◌≡◌, ℕ, zero, suc, ◌+◌, ◌*◌, ◌^◌, ◌≤◌, ◌<◌, true, List, [], All, length, ℤ}
 use Rattle.std.proofs.Common.{pos, ◌+ℤ◌, Option, Some, Ok, Err, slice_get, option_map, unwrap_or, refl, sym, ap, ◌∙◌, subst, true≢false}
 use Rattle.std.proofs.Common.{arith}
-use Rattle.std.specs.List.{Contains}
 use Rattle.std.proofs.lemmas.List.Elements.{All-nil, All-cons}
 use Rattle.sd_base.specs.Blocks.{Block, block_end}
 use Rattle.byte_memory.specs.Bytes.{overwritten, zeros}
@@ -13,34 +12,28 @@ use Rattle.checked_tree.specs.declared.shapes.Shape.{Shape}
 use Rattle.checked_tree.specs.declared.shapes.Shape.TheVariants as shape
 use Rattle.checked_tree.specs.declared.shapes.StructShape.{StructShape}
 use Rattle.checked_tree.specs.declared.shapes.UnionShape.{UnionShape}
-use Rattle.checked_tree.specs.declared.statements.CheckedStmt.{CheckedStmt, out-CheckedStmt}
 use Rattle.checked_tree.specs.declared.statements.CheckedStmt.TheVariants as statement
 use Rattle.checked_tree.specs.declared.stops.Stop.TheVariants.{Failed, Wild}
 use Rattle.checked_tree.specs.declared.units.CheckedFn.{CheckedFn}
 use Rattle.checked_tree.specs.Act.{act, remembers, On}
 use Rattle.checked_tree.specs.Conditions.{State}
 use Rattle.checked_tree.specs.Eval.{eval, tests}
-use Rattle.checked_tree.specs.Memory.{reached, written, cleared}
+use Rattle.checked_tree.specs.Memory.{written, cleared}
 use Rattle.checked_tree.specs.Numbers.{address}
 use Rattle.checked_tree.specs.Outcome.{Outcome, ◌>>=◌, Safe}
-use Rattle.checked_tree.proofs.Outcomes.{safe_bind}
 use Rattle.deputy_types.specs.Fitting.{BytesFit, Part as Lies, is_any, elem_bytes, shape_size}
 use Rattle.deputy_types.specs.Table.{union_shape}
 use Rattle.deputy_types.proofs.Inversions.{some_then}
 use Rattle.layout_laws.proofs.ZeroFits.{lies_in}
 use Rattle.deputy_rules.specs.declared.derived.Derived.{Derived}
 use Rattle.deputy_rules.specs.declared.derived.Derived.TheVariants as derived
-use Rattle.deputy_rules.specs.declared.derived.Place.{Place}
 use Rattle.deputy_rules.specs.declared.derived.UnionPlace.{UnionPlace}
-use Rattle.deputy_rules.specs.declared.derived.Value.{Value}
-use Rattle.deputy_rules.specs.declared.derived.ArrayPlace.{ArrayPlace}
 use Rattle.deputy_rules.specs.Context.{Context}
-use Rattle.deputy_rules.specs.Deriving.{Deriving, lift, pure}
 use Rattle.deputy_rules.specs.Statements.{clear, zero_of}
-use Rattle.driver_safety.specs.Derivations.{IsStructAt, IsUnion, IsDerived}
+use Rattle.driver_safety.specs.Derivations.{IsStructAt, IsDerived}
 use Rattle.driver_safety.specs.Goodness.{IsGood, IsBlock, IsMemory}
 use Rattle.driver_safety.specs.Reaching.{IsOpenAt}
-use Rattle.driver_safety.specs.TypeFacts.{HasTypes, HasSlots, IsFilled, IsMemberOf, IsArmIn}
+use Rattle.driver_safety.specs.TypeFacts.{HasTypes, HasSlots, IsFilled, IsMemberOf}
 use Rattle.driver_safety.proofs.assignments.ElementStores.{with_memory}
 use Rattle.driver_safety.proofs.assignments.SlotAssign.{Leaves}
 use Rattle.driver_safety.proofs.checks.Evaluations.{safe_same, eval-Field}

@@ -1,5 +1,5 @@
 -- `zero(l)` keeps a good state.
-use Rattle.std.proofs.Common.{◌≡◌, ℕ, [], sym, subst}
+use Rattle.std.proofs.Common.{ℕ, [], sym, subst}
 use Rattle.deputy_rules.specs.Expressions.{derive}
 use Rattle.deputy_rules.specs.Statements.{zero, zero_of}
 use Rattle.driver_safety.specs.Derivations.{IsDerived}

@@ -1,21 +1,17 @@
 -- A local that no annotation names takes the kernel's answer, and its frame stays good.
-use Rattle.std.proofs.Common.{◌≡◌, ◌⊎◌, inl, inr, IsTrue, ℕ, zero, suc, ◌+◌, ◌-◌, ◌*◌, ◌^◌, ◌≤◌, ◌<◌, ◌==◌, Bool, true, false, List, ℤ, pos}
+use Rattle.std.proofs.Common.{◌≡◌, ◌⊎◌, inl, inr, ℕ, zero, suc, ◌+◌, ◌*◌, ◌≤◌, ◌<◌, false, List, pos}
 use Rattle.std.proofs.Common.{Option, Some, None, option_map, slice_get, if◌then◌else◌, refl, sym, ap, ◌∙◌, subst, arith}
 use Rattle.std.proofs.lemmas.Bool.{eqb-true}
-use Rattle.std.proofs.lemmas.Nat.{mul-le}
-use Rattle.std.specs.List.{Contains}
 use Rattle.sd_base.specs.Blocks.{Block, block_end}
 use Rattle.sd_base.specs.declared.actors.Fat.{Fat}
 use Rattle.c_tree.specs.Slots.{slot_named, hidden_slot}
 use Rattle.checked_tree.specs.declared.kernel.Answer.{Answer}
 use Rattle.checked_tree.specs.declared.kernel.Answer.TheVariants as answer
-use Rattle.checked_tree.specs.declared.kernel.KernelName.{KernelName}
 use Rattle.checked_tree.specs.declared.kernel_table.KernelResult.{KernelResult}
 use Rattle.checked_tree.specs.declared.kernel_table.KernelResult.TheVariants as result
 use Rattle.checked_tree.specs.declared.shapes.Bounds.TheVariants as bounds
 use Rattle.checked_tree.specs.declared.shapes.Scalar.{Scalar}
 use Rattle.checked_tree.specs.declared.shapes.Scalar.TheVariants.{I32}
-use Rattle.checked_tree.specs.declared.shapes.Shape.{Shape}
 use Rattle.checked_tree.specs.declared.shapes.Shape.TheVariants as shape
 use Rattle.checked_tree.specs.declared.statements.Target.{Target}
 use Rattle.checked_tree.specs.declared.statements.Target.TheVariants as target
@@ -23,11 +19,9 @@ use Rattle.checked_tree.specs.declared.units.CheckedFn.{CheckedFn}
 use Rattle.checked_tree.specs.Conditions.{State}
 use Rattle.checked_tree.specs.Operands.{null}
 use Rattle.checked_tree.specs.Step.{answer_set}
-use Rattle.deputy_types.specs.Fitting.{Fits, null as nowhere, in_bounds, IsBounded, IsOpenPlace, elem_bytes, Part, whole}
-use Rattle.deputy_types.specs.Options.{and_then}
+use Rattle.deputy_types.specs.Fitting.{null as nowhere, in_bounds, IsOpenPlace, elem_bytes, whole}
 use Rattle.deputy_types.proofs.Inversions.{some_then}
-use Rattle.deputy_rules.specs.declared.signature.Returned.TheVariants as returned
-use Rattle.deputy_rules.specs.Calls.{is_named_slot, free_slot, integer_target, is_automatic_to, automatic_target, shape_target}
+use Rattle.deputy_rules.specs.Calls.{is_named_slot, free_slot, is_automatic_to, automatic_target, shape_target}
 use Rattle.deputy_rules.specs.Calls.{value_target, call_target, kernel_result, kalloc_target}
 use Rattle.deputy_rules.specs.Context.{Context, slot_shape}
 use Rattle.driver_safety.specs.Goodness.{IsGood, IsBlock}

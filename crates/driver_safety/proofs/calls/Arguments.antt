@@ -1,11 +1,10 @@
 -- The arguments of a call: each has a value as its parameter wants it, the names of parameters stand for those values, and each fits its
 -- parameter behind the checks.
 use Rattle.std.proofs.Common.{◌≡◌, ℕ, zero, suc, IsTrue, List, [], ◌∷◌, ◌++◌, All, map, ℤ, pos, Option, Some, None, slice_get}
-use Rattle.std.proofs.Common.{slice_index_or, unwrap_or, Ok, refl, sym, ap, ◌∙◌, subst, append_assoc, append-nil}
+use Rattle.std.proofs.Common.{slice_index_or, unwrap_or, refl, sym, ap, ◌∙◌, subst, append_assoc, append-nil}
 use Rattle.std.proofs.lemmas.List.Elements.{All-head, All-tail}
 use Rattle.sd_base.specs.Blocks.{Block}
 use Rattle.c_tree.specs.declared.expressions.Expr.{Expr}
-use Rattle.checked_tree.specs.declared.shapes.Bounds.{Bounds}
 use Rattle.checked_tree.specs.declared.shapes.Bounds.TheVariants as bounds
 use Rattle.checked_tree.specs.declared.shapes.Edge.{Edge}
 use Rattle.checked_tree.specs.declared.shapes.Scalar.{Scalar}
@@ -29,10 +28,10 @@ use Rattle.deputy_rules.specs.SumValues.{HasValue, parts_at}
 use Rattle.deputy_rules.specs.Values.{nothing, name_sum, named_sum}
 use Rattle.driver_safety.specs.Derivations.{IsDerived}
 use Rattle.driver_safety.specs.Goodness.{IsGood}
-use Rattle.driver_safety.specs.Handing.{TakesOne, TakeEach, IsIntegerParameter, CountsParameters, HasParameters, HaveWords}
+use Rattle.driver_safety.specs.Handing.{TakesOne, TakeEach, IsIntegerParameter, CountsParameters, HaveWords}
 use Rattle.driver_safety.specs.TypeFacts.{HasTypes, HasSlots, IsDeclared}
 use Rattle.driver_safety.specs.WrittenNumbers.{has_words}
-use Rattle.driver_safety.proofs.calls.Given.{IsGivenValue, Given, AreNamedBy, TakenBehind, pass_sound, coerce_value_sound}
+use Rattle.driver_safety.proofs.calls.Given.{IsGivenValue, Given, AreNamedBy, pass_sound, coerce_value_sound}
 use Rattle.driver_safety.proofs.checks.Evaluations.{Pass, pass_none, pass_then}
 use Rattle.driver_safety.proofs.checks.Sounding.{Sound, then_sound, pure_sound, lift_sound, none_sound, weaker}
 use Rattle.driver_safety.proofs.expressions.Expressions.{derive_sound}

@@ -1,5 +1,5 @@
 -- A call hands over what the function's parameters take.
-use Rattle.std.proofs.Common.{◌≡◌, ℕ, List, [], ◌∷◌, ◌++◌, map, ℤ, pos, Option, Some, slice_index_or, refl, sym, ap, subst}
+use Rattle.std.proofs.Common.{◌≡◌, ℕ, List, [], map, ℤ, pos, Option, Some, slice_index_or, refl, sym, ap, subst}
 use Rattle.sd_base.specs.Blocks.{Block}
 use Rattle.c_tree.specs.declared.expressions.Expr.{Expr}
 use Rattle.checked_tree.specs.declared.statements.CheckedStmt.{CheckedStmt, out-CheckedStmt}
@@ -24,7 +24,7 @@ use Rattle.driver_safety.specs.Passing.{AreTested}
 use Rattle.driver_safety.specs.TypeFacts.{HasTypes, HasSlots}
 use Rattle.driver_safety.proofs.calls.Arguments.{GivenEach, ValueEach, TakenEach, declared_each, pass_each_sound, arguments_sound}
 use Rattle.driver_safety.proofs.calls.Arguments.{names_have, named_each, coerce_each_sound}
-use Rattle.driver_safety.proofs.checks.Evaluations.{safe_same, Pass}
+use Rattle.driver_safety.proofs.checks.Evaluations.{safe_same}
 use Rattle.driver_safety.proofs.checks.Sounding.{Sound, then_sound, pure_sound, lift_sound}
 use Rattle.driver_safety.proofs.checks.TestedChecks.{numbered_tested}
 

@@ -1,6 +1,6 @@
 -- What is handed over has a value as its taker's type wants it, and fits that type behind the checks.
-use Rattle.std.proofs.Common.{◌≡◌, ℕ, IsTrue, Bool, true, false, List, [], ◌∷◌, ℤ, pos, Option, Some, None, option_map, Ok, refl, sym, ap}
-use Rattle.std.proofs.Common.{◌∙◌, subst}
+use Rattle.std.proofs.Common.{◌≡◌, ℕ, IsTrue, true, List, [], ℤ, pos, Option, Some, None, option_map, Ok, refl}
+use Rattle.std.proofs.Common.{subst}
 use Rattle.sd_base.specs.Blocks.{Block}
 use Rattle.checked_tree.specs.declared.shapes.Bounds.{Bounds}
 use Rattle.checked_tree.specs.declared.shapes.Bounds.TheVariants as bounds
@@ -11,7 +11,7 @@ use Rattle.checked_tree.specs.declared.shapes.Shape.TheVariants as shape
 use Rattle.checked_tree.specs.declared.units.CheckedFn.{CheckedFn}
 use Rattle.checked_tree.specs.Conditions.{State}
 use Rattle.checked_tree.specs.Eval.{eval, tests}
-use Rattle.checked_tree.specs.Numbers.{converted, is_of, is_word}
+use Rattle.checked_tree.specs.Numbers.{converted, is_of}
 use Rattle.checked_tree.specs.Operands.{argument, taken}
 use Rattle.checked_tree.specs.Outcome.{Safe}
 use Rattle.checked_tree.proofs.NumberRanges.{converted_of}
@@ -29,7 +29,6 @@ use Rattle.deputy_rules.specs.declared.naming.Naming.{Naming}
 use Rattle.deputy_rules.specs.Calls.{pass, passed_argument, coerce_value}
 use Rattle.deputy_rules.specs.Coercion.{converted_side, handed, coerce_to}
 use Rattle.deputy_rules.specs.Context.{Context}
-use Rattle.deputy_rules.specs.Deriving.{lift}
 use Rattle.deputy_rules.specs.NameValues.{AreOnce, HaveNames}
 use Rattle.deputy_rules.specs.Sums.{sum_of}
 use Rattle.deputy_rules.specs.SumValues.{HasValue}

@@ -1,15 +1,14 @@
 -- A local that no annotation names takes a result, and its frame stays good.
-use Rattle.std.proofs.Common.{◌≡◌, ◌≢◌, ℕ, ◌+◌, ◌^◌, ◌≤◌, ◌<◌, ◌==◌, ◌||◌, ◌&&◌, IsTrue, Bool, true, false, List, [], ◌∷◌, ℤ, pos, negsuc}
-use Rattle.std.proofs.Common.{◌+ℤ◌, nat_lt, Option, Some, None, option_map, Ok, Err, if◌then◌else◌, refl, sym, ap, ◌∙◌, subst, true≢false}
+use Rattle.std.proofs.Common.{◌≡◌, ◌≢◌, ℕ, ◌+◌, ◌^◌, ◌≤◌, ◌<◌, ◌==◌, ◌||◌, IsTrue, Bool, true, false, List, [], ◌∷◌, ℤ, pos, negsuc}
+use Rattle.std.proofs.Common.{◌+ℤ◌, nat_lt, Option, Some, None, option_map, Ok, if◌then◌else◌, refl, sym, ap, ◌∙◌, subst}
 use Rattle.std.proofs.Common.{arith}
 use Rattle.std.specs.List.{list_any}
 use Rattle.std.specs.Ordering.{int_eq}
 use Rattle.std.proofs.lemmas.Bool.{eqb-true, ltb-false}
 use Rattle.std.proofs.lemmas.Bool.Decides.{Decides-int_eq}
-use Rattle.sd_base.specs.Blocks.{Block, block_end}
+use Rattle.sd_base.specs.Blocks.{Block}
 use Rattle.sd_base.specs.declared.actors.Fat.{Fat}
 use Rattle.c_tree.specs.Slots.{slot_named, hidden_slot}
-use Rattle.checked_tree.specs.declared.shapes.Bounds.{Bounds}
 use Rattle.checked_tree.specs.declared.shapes.Bounds.TheVariants as bounds
 use Rattle.checked_tree.specs.declared.shapes.Edge.{Edge}
 use Rattle.checked_tree.specs.declared.shapes.Scalar.{Scalar}
@@ -18,7 +17,6 @@ use Rattle.checked_tree.specs.declared.shapes.Shape.{Shape}
 use Rattle.checked_tree.specs.declared.shapes.Shape.TheVariants as shape
 use Rattle.checked_tree.specs.declared.statements.Target.{Target}
 use Rattle.checked_tree.specs.declared.statements.Target.TheVariants as target
-use Rattle.checked_tree.specs.declared.sums.Sum.{Sum}
 use Rattle.checked_tree.specs.declared.units.CheckedFn.{CheckedFn}
 use Rattle.checked_tree.specs.Act.{with_local, with_pointer}
 use Rattle.checked_tree.specs.Conditions.{State}
@@ -29,26 +27,25 @@ use Rattle.checked_tree.specs.Outcome.{Outcome, ◌>>=◌, Safe}
 use Rattle.checked_tree.specs.Step.{with_returned, returned_pointer}
 use Rattle.checked_tree.proofs.NumberRanges.{of_value, word_value, converted_of}
 use Rattle.deputy_types.specs.Fitting.{Fits, null as nowhere, in_text, in_bounds}
-use Rattle.deputy_types.specs.Options.{and_then}
-use Rattle.deputy_types.specs.Table.{bounds_name, edge_names, shape_names}
+use Rattle.deputy_types.specs.Table.{edge_names, shape_names}
 use Rattle.deputy_types.proofs.Inversions.{some_then}
 use Rattle.deputy_rules.specs.declared.naming.Names.TheVariants as names
 use Rattle.deputy_rules.specs.declared.naming.Naming.{Naming}
 use Rattle.deputy_rules.specs.declared.signature.Returned.{Returned}
 use Rattle.deputy_rules.specs.declared.signature.Returned.TheVariants as returned
 use Rattle.deputy_rules.specs.Calls.{names_slot, is_named_slot, free_slot, integer_target, is_automatic_to, automatic_target}
-use Rattle.deputy_rules.specs.Calls.{is_nullterm_shape, text_target, shape_target, value_target, call_target}
+use Rattle.deputy_rules.specs.Calls.{is_nullterm_shape, shape_target, call_target}
 use Rattle.deputy_rules.specs.Changes.{changed}
 use Rattle.deputy_rules.specs.Context.{Context, slot_shape}
-use Rattle.deputy_rules.specs.Functions.{reach_of, reach, result_scalar}
+use Rattle.deputy_rules.specs.Functions.{reach_of, result_scalar}
 use Rattle.deputy_rules.specs.NameValues.{local_at}
 use Rattle.deputy_rules.specs.Sums.{constant}
-use Rattle.deputy_rules.specs.Values.{of_slots, is_nullterm}
+use Rattle.deputy_rules.specs.Values.{of_slots}
 use Rattle.deputy_rules.proofs.SumsHave.{has_constant}
 use Rattle.driver_safety.specs.CallLaw.{GivesBack}
-use Rattle.driver_safety.specs.Goodness.{IsGood, IsBlock, SlotHolds}
-use Rattle.driver_safety.specs.Handing.{Takes, FitsAsNamed}
-use Rattle.driver_safety.specs.ResultLaw.{NamesNothing, BoundsAreConstant, ShapeIsConstant, ResultIsConstant, EachResultIsTaken}
+use Rattle.driver_safety.specs.Goodness.{IsGood, IsBlock}
+use Rattle.driver_safety.specs.Handing.{Takes}
+use Rattle.driver_safety.specs.ResultLaw.{NamesNothing, ShapeIsConstant, ResultIsConstant, EachResultIsTaken}
 use Rattle.driver_safety.specs.TypeFacts.{HasTypes, HasSlots, IsInteger}
 use Rattle.driver_safety.proofs.assignments.AutomaticAssign.{bounded_is, pointer_next}
 use Rattle.driver_safety.proofs.assignments.SiblingRules.{same_edge, ShapeFits, ShapeRenames, OthersKeep, AllRenamed}

@@ -1,5 +1,5 @@
 -- `return` gives back what the result takes.
-use Rattle.std.proofs.Common.{◌≡◌, ℕ, IsTrue, List, [], ◌∷◌, ℤ, Option, Some, None, Ok, refl, sym, ap, subst}
+use Rattle.std.proofs.Common.{◌≡◌, ℕ, IsTrue, List, [], ℤ, Option, Some, None, refl, sym, ap, subst}
 use Rattle.sd_base.specs.Blocks.{Block}
 use Rattle.c_tree.specs.declared.expressions.Expr.{Expr}
 use Rattle.checked_tree.specs.declared.shapes.Bounds.TheVariants as bounds
@@ -31,7 +31,7 @@ use Rattle.driver_safety.specs.TypeFacts.{HasTypes, HasSlots, IsDeclared}
 use Rattle.driver_safety.specs.WrittenNumbers.{has_words}
 use Rattle.driver_safety.proofs.assignments.SlotChanges.{slots_have}
 use Rattle.driver_safety.proofs.calls.Given.{IsGivenValue, Given, AreNamedBy, pass_sound, coerce_value_sound}
-use Rattle.driver_safety.proofs.checks.Evaluations.{safe_same, Pass, pass_none}
+use Rattle.driver_safety.proofs.checks.Evaluations.{safe_same, Pass}
 use Rattle.driver_safety.proofs.checks.Sounding.{Sound, then_sound, pure_sound, lift_sound, none_sound}
 use Rattle.driver_safety.proofs.checks.TestedChecks.{numbered_tested}
 use Rattle.driver_safety.proofs.expressions.Expressions.{derive_sound}

@@ -1,8 +1,6 @@
 -- Statements in turn: what is derived at a line and then numbered holds in every state, once the function is whole.
-use Rattle.std.proofs.Common.{◌≡◌, ℕ, zero, suc, List, [], ◌∷◌, ◌++◌, length, slice_get, Option, Some, None, Result, Ok, Err, refl, sym, ap}
+use Rattle.std.proofs.Common.{◌≡◌, ℕ, zero, suc, List, [], ◌∷◌, ◌++◌, length, slice_get, Option, Some, None, Result, Ok, Err, refl, ap}
 use Rattle.std.proofs.Common.{◌∙◌, subst}
-use Rattle.checked_tree.specs.declared.checks.Check.{Check}
-use Rattle.checked_tree.specs.declared.expressions.CheckedExpr.{CheckedExpr}
 use Rattle.checked_tree.specs.declared.units.CheckedFn.{CheckedFn}
 use Rattle.checked_tree.specs.Conditions.{State}
 use Rattle.deputy_rules.specs.declared.asked.Asked.{Asked}
@@ -12,8 +10,8 @@ use Rattle.deputy_rules.specs.Deriving.{Deriving}
 use Rattle.deputy_rules.specs.Numbering.{Numbered, numbered}
 use Rattle.deputy_rules.specs.Statements.{with_numbers, numbered_at, statement_context, at_line}
 use Rattle.driver_safety.specs.Passing.{AreTested, IsFront}
-use Rattle.driver_safety.proofs.checks.Sounding.{front_same, front_front, Sound}
-use Rattle.driver_safety.proofs.checks.TestedChecks.{AreNumbered, numbered_tested}
+use Rattle.driver_safety.proofs.checks.Sounding.{front_same, front_front}
+use Rattle.driver_safety.proofs.checks.TestedChecks.{numbered_tested}
 
 pair_same : {A B : Type 0} (a c : A) (b d : B) → ◌≡◌ {A = Result (A × B) Fault} (Ok (a, b)) (Ok (c, d)) → (a ≡ c) × (b ≡ d)
 pair_same {A} {B} a c b d h = let e = whole (a, b) (c, d) h in (ap (λ (x : A × B). x.0) e, ap (λ (x : A × B). x.1) e)

@@ -1,14 +1,14 @@
 -- The checks that were numbered test what was asked: in a state in which all expressions of the condition have values.
-use Rattle.std.proofs.Common.{◌≡◌, ◌⊎◌, inl, inr, ℕ, zero, suc, ◌+◌, ◌-◌, ◌*◌, ◌^◌, ◌<◌, ◌≤◌, nat_lt, get_or, cond, filter, IsTrue, Bool}
-use Rattle.std.proofs.Common.{true, false, not, ◌&&◌, ◌||◌, List, [], ◌∷◌, ◌++◌, length, ℤ, pos, negsuc, ◌+ℤ◌, ◌-ℤ◌, ◌*ℤ◌, neg_ℤ, int_le}
-use Rattle.std.proofs.Common.{unsigned_abs, Option, Some, None, option_map, Ok, Err, slice_get, if◌then◌else◌, refl, sym, ap, ◌∙◌, subst}
+use Rattle.std.proofs.Common.{◌≡◌, ℕ, ◌+◌, ◌*◌, ◌^◌, ◌<◌, ◌≤◌, nat_lt, get_or, cond, filter, IsTrue, Bool}
+use Rattle.std.proofs.Common.{true, false, not, ◌&&◌, List, [], ◌∷◌, ◌++◌, length, ℤ, pos, ◌+ℤ◌, ◌-ℤ◌, ◌*ℤ◌, neg_ℤ}
+use Rattle.std.proofs.Common.{unsigned_abs, Option, Some, None, Ok, slice_get, if◌then◌else◌, refl, sym, ap, ◌∙◌, subst}
 use Rattle.std.proofs.Common.{arith}
 use Rattle.std.specs.List.{position_or_len}
 use Rattle.std.proofs.lemmas.Int.{ints, unsigned_abs-mul}
 use Rattle.std.proofs.lemmas.List.Sums.{passes_at_first, prefix_len-le-length}
 use Rattle.std.proofs.lemmas.Option.{slice_get-get_or}
 use Rattle.std.proofs.lemmas.Nat.{mul-le}
-use Rattle.dep_expr.specs.Linear.{LinearForm, Assignment, number_form, term_form, plus, terms_value, value_of}
+use Rattle.dep_expr.specs.Linear.{LinearForm, Assignment, number_form, term_form, plus, value_of}
 use Rattle.dep_expr.specs.Merged.{merged, merged_terms, gathered, with_term as gather, counts}
 use Rattle.dep_expr.specs.Weight.{weight}
 use Rattle.dep_expr.proofs.Integers.{neg-mul}
@@ -25,7 +25,7 @@ use Rattle.checked_tree.specs.Numbers.{is_value}
 use Rattle.checked_tree.specs.Outcome.{Got}
 use Rattle.checked_tree.specs.Conditions.{State, peek, atom_value, form_value}
 use Rattle.checked_tree.proofs.CodeLaws.{same_forms}
-use Rattle.checked_tree.proofs.FormValues.{HaveNumbers, IsLimited, StayLimited, form_value-numbers}
+use Rattle.checked_tree.proofs.FormValues.{HaveNumbers, StayLimited, form_value-numbers}
 use Rattle.deputy_rules.specs.Numbering.{Forming, unformed, if_light, with_number, with_term, with_atom, number_of, signed, with_part}
 use Rattle.deputy_rules.specs.Numbering.{with_parts, difference, whole, single}
 use Rattle.deputy_types.specs.Options.{and_then}

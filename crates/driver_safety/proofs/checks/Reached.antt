@@ -1,5 +1,5 @@
 -- Bytes that are inside are reached.
-use Rattle.std.proofs.Common.{◌≡◌, ℕ, ◌^◌, ◌<◌, nat_lt, Bool, true, pos, Ok, Err, if◌then◌else◌, ap, ◌∙◌}
+use Rattle.std.proofs.Common.{◌≡◌, ℕ, ◌^◌, ◌<◌, Bool, true, pos, Ok, Err, if◌then◌else◌, ap, ◌∙◌}
 use Rattle.std.proofs.lemmas.Bool.{lt-ltb}
 use Rattle.byte_memory.specs.Tested.{Memory, is_inside}
 use Rattle.checked_tree.specs.declared.stops.Stop.TheVariants.{Wild}

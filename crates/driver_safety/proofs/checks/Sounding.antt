@@ -1,7 +1,7 @@
 -- What a rule ensures where it derives something, in one state: the checks only grow, and where all of them stand in the function, the
 -- fact.
-use Rattle.std.proofs.Common.{◌≡◌, ℕ, suc, zero, ◌+◌, Bool, true, false, List, [], ◌∷◌, ◌++◌, length, Option, Some, None, slice_get}
-use Rattle.std.proofs.Common.{if◌then◌else◌, refl, sym, ap, ◌∙◌, subst, arith}
+use Rattle.std.proofs.Common.{◌≡◌, ℕ, suc, zero, ◌+◌, Bool, true, false, List, [], ◌∷◌, ◌++◌, length, Option, Some, slice_get}
+use Rattle.std.proofs.Common.{if◌then◌else◌, refl, sym, ap, ◌∙◌, subst}
 use Rattle.sd_base.specs.declared.kinds.CheckKind.{CheckKind}
 use Rattle.checked_tree.specs.declared.units.CheckedFn.{CheckedFn}
 use Rattle.checked_tree.specs.Conditions.{State}

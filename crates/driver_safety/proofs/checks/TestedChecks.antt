@@ -1,7 +1,7 @@
 -- Each check that was numbered tests the condition that was asked for.
-use Rattle.std.proofs.Common.{◌≡◌, ◌≢◌, ◌⊎◌, inl, inr, ℕ, zero, suc, ◌+◌, ◌-◌, IsTrue, Bool, true, false, not, ◌||◌, ◌==◌, if◌then◌else◌}
-use Rattle.std.proofs.Common.{List, [], ◌∷◌, ◌++◌, length, ℤ, pos, negsuc, ◌-ℤ◌, int_le, Option, Some, None, option_map, Ok, Err, slice_get}
-use Rattle.std.proofs.Common.{refl, sym, ap, ◌∙◌, subst, true≢false, arith}
+use Rattle.std.proofs.Common.{◌≡◌, ◌⊎◌, inl, inr, ℕ, zero, suc, ◌+◌, ◌-◌, IsTrue, Bool, true, false, not, ◌||◌, ◌==◌, if◌then◌else◌}
+use Rattle.std.proofs.Common.{List, [], ◌∷◌, ◌++◌, length, ℤ, pos, ◌-ℤ◌, int_le, Option, Some, None, option_map, Ok, slice_get}
+use Rattle.std.proofs.Common.{refl, sym, ap, ◌∙◌, subst, arith}
 use Rattle.std.specs.List.{list_all}
 use Rattle.std.specs.Ordering.{int_eq}
 use Rattle.byte_memory.specs.Bytes.{bytes_at}
@@ -27,7 +27,7 @@ use Rattle.deputy_rules.specs.Numbering.{Numbered, difference, whole, single, at
 use Rattle.deputy_rules.specs.Numbering.{conditioned, with_cond, with_check, numbered}
 use Rattle.deputy_types.specs.Options.{and_then}
 use Rattle.deputy_types.proofs.Inversions.{some_then, some_map}
-use Rattle.deputy_rules.specs.SumValues.{part_at, parts_at, PartHasValue, HaveValues}
+use Rattle.deputy_rules.specs.SumValues.{part_at, parts_at}
 use Rattle.driver_safety.specs.Passing.{IsFront, sum_at, place_of, IsInside, clear_at, new_at, HasSides, Passes, IsTested, AreTested}
 use Rattle.driver_safety.proofs.checks.Evaluations.{safe_same}
 use Rattle.driver_safety.proofs.checks.Reached.{reached_is}

@@ -1,6 +1,6 @@
 -- A type name with constant annotations declares the shape of its key, whatever siblings there are.
-use Rattle.std.proofs.Common.{◌≡◌, ℕ, zero, suc, ◌+◌, ◌-◌, ◌*◌, ◌≤◌, Bool, List, [], ◌∷◌, ◌++◌, length, take, Option, Some, None}
-use Rattle.std.proofs.Common.{option_map, unwrap_or, ℤ, pos, ◌+ℤ◌, ◌*ℤ◌, slice_get, if◌then◌else◌, refl, sym, ap, ◌∙◌, subst, arith}
+use Rattle.std.proofs.Common.{◌≡◌, ℕ, suc, ◌-◌, ◌*◌, Bool, List, [], ◌∷◌, length, take, Option, Some, None}
+use Rattle.std.proofs.Common.{option_map, unwrap_or, ℤ, pos, ◌+ℤ◌, slice_get, refl, sym, ap, ◌∙◌, subst, arith}
 use Rattle.c_tree.specs.declared.types.Annotation.{Annotation}
 use Rattle.c_tree.specs.declared.types.Annotation.TheVariants as annotation
 use Rattle.c_tree.specs.declared.types.SignedTerm.{SignedTerm}
@@ -21,7 +21,7 @@ use Rattle.deputy_types.specs.declared.sibling.Unannotated.TheVariants as unanno
 use Rattle.deputy_types.specs.declared.siblings.Siblings.{Siblings}
 use Rattle.deputy_types.specs.declared.types.Types.{Types}
 use Rattle.deputy_types.specs.Declarations.{own, in_bytes, is_small, if_small, with_bytes, with_number, edge_with, edge_term, edge_terms}
-use Rattle.deputy_types.specs.Declarations.{up_to, counted_bounds, annotated_bounds, star_bounds, plain_shape, pointer_to, pointer_shape}
+use Rattle.deputy_types.specs.Declarations.{up_to, annotated_bounds, star_bounds, plain_shape, pointer_to, pointer_shape}
 use Rattle.deputy_types.specs.Declarations.{shape_behind, typed_shape}
 use Rattle.deputy_types.specs.Extents.{key_extent}
 use Rattle.deputy_types.specs.Options.{and_then}
@@ -32,7 +32,7 @@ use Rattle.deputy_types.specs.Types.{last_star, pointed_key, type_key}
 use Rattle.deputy_types.specs.UnitLayout.{elem_shape}
 use Rattle.deputy_types.proofs.Inversions.{some_then, some_map}
 use Rattle.layout_laws.proofs.ElementSizes.{numbered}
-use Rattle.driver_safety.proofs.declarations.DeclaredShapes.{some_same, given, if_both}
+use Rattle.driver_safety.proofs.declarations.DeclaredShapes.{some_same, if_both}
 
 -- ---- sums without names
 no_bytes : (size : ℕ) → 0 * size ≡ 0

@@ -1,5 +1,4 @@
 -- The laws of declarations.
-use Rattle.std.proofs.Common.{ℕ, refl}
 use Rattle.driver_safety.specs.DeclarationLaws.{EachTableHasTypes, EachFunctionHasSlots, EachFunctionHasHead}
 use Rattle.driver_safety.proofs.declarations.FunctionHeads.{seen, has_parameters, entered, result_declared}
 use Rattle.driver_safety.proofs.declarations.FunctionSlots.{slots_stand}

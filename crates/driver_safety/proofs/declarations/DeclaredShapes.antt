@@ -1,6 +1,6 @@
 -- What a type name declares: an integer that is not `void`, or a pointer whose annotation names integers and other pointers among its
 -- siblings; `nullterm` stands on pointers to `char` alone.
-use Rattle.std.proofs.Common.{◌≡◌, ◌≢◌, ℕ, ◌+◌, ◌==◌, not, ◌&&◌, Bool, true, false, List, [], ◌∷◌, ◌++◌, length, Option, Some, None}
+use Rattle.std.proofs.Common.{◌≡◌, ◌≢◌, ℕ, ◌==◌, not, ◌&&◌, Bool, true, false, List, [], ◌∷◌, Option, Some, None}
 use Rattle.std.proofs.Common.{option_map, ℤ, pos, ◌+ℤ◌, slice_get, if◌then◌else◌, All, refl, sym, ap, ◌∙◌, subst, true≢false}
 use Rattle.std.proofs.lemmas.Bool.{and_parts, eq-eqb}
 use Rattle.std.proofs.lemmas.List.Elements.{All-nil, All-push}
@@ -38,7 +38,7 @@ use Rattle.deputy_types.specs.Options.{and_then}
 use Rattle.deputy_types.specs.Siblings.{sibling_number, role_of}
 use Rattle.deputy_types.specs.Types.{base_key, struct_number, star_key, stars_key, pointer_key, annotated_key, constant_sum, signed_number}
 use Rattle.deputy_types.specs.Types.{is_char, element_number, pointed_key, front_stars, last_star}
-use Rattle.deputy_types.proofs.Inversions.{some_then, some_map, if_some}
+use Rattle.deputy_types.proofs.Inversions.{some_then, some_map}
 use Rattle.layout_laws.proofs.ElementSizes.{numbered}
 use Rattle.driver_safety.specs.TypeFacts.{IsInteger}
 

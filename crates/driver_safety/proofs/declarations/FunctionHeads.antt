@@ -1,12 +1,12 @@
 -- What a function whose declarations stand takes and gives back: each parameter is declared, its annotation counts integer parameters, and
 -- the annotation of its result is constant. So the first frame of a call is good.
-use Rattle.std.proofs.Common.{◌≡◌, ◌≢◌, ◌⊎◌, inl, inr, ℕ, zero, suc, ◌+◌, ◌-◌, ◌*◌, ◌^◌, ◌≤◌, ◌<◌, nat_lt, Bool, true, false, cond, not}
-use Rattle.std.proofs.Common.{◌&&◌, is_none, is_some, position, bytes_eq, List, [], ◌∷◌, ◌++◌, map, length, ℤ, pos, negsuc, ◌+ℤ◌, ◌*ℤ◌}
-use Rattle.std.proofs.Common.{Option, Some, None, option_map, slice_get, if◌then◌else◌, All, refl, sym, ap, ◌∙◌, subst, length-append}
+use Rattle.std.proofs.Common.{◌≡◌, ◌⊎◌, inl, inr, ℕ, zero, suc, ◌+◌, ◌-◌, ◌<◌, nat_lt, Bool, true, false, cond, not}
+use Rattle.std.proofs.Common.{◌&&◌, is_none, is_some, position, bytes_eq, List, [], ◌∷◌, ◌++◌, map, length, ℤ, pos}
+use Rattle.std.proofs.Common.{Option, Some, None, option_map, slice_get, if◌then◌else◌, All, refl, sym, ap, ◌∙◌, subst}
 use Rattle.std.proofs.Common.{arith}
 use Rattle.std.specs.List.{position_or_len}
 use Rattle.std.specs.Option.{option_flatten}
-use Rattle.std.proofs.lemmas.Bool.{and_parts, eq-eqb}
+use Rattle.std.proofs.lemmas.Bool.{eq-eqb}
 use Rattle.std.proofs.lemmas.Option.{slice_get-map, slice_get_within}
 use Rattle.std.proofs.lemmas.List.Elements.{All-head, All-weaker}
 use Rattle.c_tree.specs.declared.items.Function.{Function}
@@ -20,11 +20,10 @@ use Rattle.c_tree.specs.declared.types.Annotation.TheVariants as annotation
 use Rattle.c_tree.specs.declared.types.Base.{Base}
 use Rattle.c_tree.specs.declared.types.Star.{Star}
 use Rattle.c_tree.specs.declared.types.TypeName.{TypeName}
-use Rattle.c_tree.specs.Slots.{ends_bare, is_automatic, locals_of, hidden_slot, slot_names}
+use Rattle.c_tree.specs.Slots.{ends_bare, locals_of, hidden_slot, slot_names}
 use Rattle.checked_tree.specs.declared.shapes.Bounds.{Bounds}
 use Rattle.checked_tree.specs.declared.shapes.Bounds.TheVariants as bounds
 use Rattle.checked_tree.specs.declared.shapes.Edge.{Edge}
-use Rattle.checked_tree.specs.declared.shapes.Scalar.{Scalar}
 use Rattle.checked_tree.specs.declared.shapes.Scalar.TheVariants as scalar
 use Rattle.checked_tree.specs.declared.shapes.Shape.{Shape}
 use Rattle.checked_tree.specs.declared.shapes.Shape.TheVariants as shape
@@ -51,23 +50,23 @@ use Rattle.deputy_rules.specs.declared.signature.Returned.TheVariants as returne
 use Rattle.deputy_rules.specs.Agreement.{parameter_place, same_place}
 use Rattle.deputy_rules.specs.Context.{Context, slot_shape}
 use Rattle.deputy_rules.specs.Functions.{shapes_of}
-use Rattle.deputy_rules.specs.Heads.{value_shape, named_shape, parameter_shapes, slot_shapes, with_hidden, local_shape, is_declared}
+use Rattle.deputy_rules.specs.Heads.{value_shape, named_shape, parameter_shapes, slot_shapes, local_shape, is_declared}
 use Rattle.deputy_rules.specs.Heads.{head_parameter_stands, wrong_head_parameter, wrong_in_head, no_shapes, seen_shapes, signature_of}
-use Rattle.deputy_rules.specs.Heads.{value_result, base_result, result_by, result_of}
+use Rattle.deputy_rules.specs.Heads.{base_result, result_by, result_of}
 use Rattle.deputy_rules.proofs.SlotNumbers.{slots_listed}
 use Rattle.layout_laws.proofs.Lists.{slice_front}
 use Rattle.light_checks.specs.Standing.{Stands}
-use Rattle.light_checks.proofs.DeclaredSlots.{Decl, first, parameter_decl, map_length}
+use Rattle.light_checks.proofs.DeclaredSlots.{Decl, parameter_decl, map_length}
 use Rattle.driver_safety.specs.CallLaw.{IsDeclaredResult}
 use Rattle.driver_safety.specs.EntryLaw.{IsEnteredIn}
-use Rattle.driver_safety.specs.Handing.{IsIntegerParameter, CountsParameters, HasParameters}
+use Rattle.driver_safety.specs.Handing.{IsIntegerParameter, HasParameters}
 use Rattle.driver_safety.specs.ResultLaw.{NamesNothing, ShapeIsConstant, ResultIsConstant}
-use Rattle.driver_safety.specs.TypeFacts.{IsInteger, IsDeclared, IsText}
-use Rattle.driver_safety.proofs.declarations.DeclaredShapes.{some_same, if_both, IsShapeOf, AreBounds, IsSide, StandsOn, CountsIntegers}
+use Rattle.driver_safety.specs.TypeFacts.{IsDeclared}
+use Rattle.driver_safety.proofs.declarations.DeclaredShapes.{some_same, if_both, IsShapeOf, IsSide, StandsOn, CountsIntegers}
 use Rattle.driver_safety.proofs.declarations.DeclaredShapes.{typed_is}
 use Rattle.driver_safety.proofs.declarations.FunctionSlots.{standing, slots_stand}
-use Rattle.driver_safety.proofs.declarations.SlotNames.{FitsRole, role_fits, IsScope, IsLocal, IsDeclaredAs, decls, pd, param_siblings}
-use Rattle.driver_safety.proofs.declarations.SlotNames.{all_siblings, shown, shown_length, shown_decl, slot_is, decl_slot, param_scope}
+use Rattle.driver_safety.proofs.declarations.SlotNames.{FitsRole, role_fits, IsLocal, IsDeclaredAs, decls, pd, param_siblings}
+use Rattle.driver_safety.proofs.declarations.SlotNames.{all_siblings, shown, shown_decl, slot_is, param_scope}
 use Rattle.driver_safety.proofs.declarations.SlotNames.{param_at, params_length, param_roles, all_first, all_stand, declared_at, there_is}
 use Rattle.driver_safety.proofs.declarations.SlotNames.{from_zero, named_typed, value_same, hidden_at, hidden_or, position_front, first_is}
 

@@ -1,7 +1,7 @@
 -- The slots of a function whose declarations stand: an integer or a pointer for each parameter and local, with the annotation that its
 -- declaration gives, and two hidden ones behind for each automatic pointer.
-use Rattle.std.proofs.Common.{◌≡◌, ◌≢◌, ◌⊎◌, inl, inr, ℕ, zero, suc, ◌+◌, ◌-◌, ◌≤◌, ◌<◌, nat_lt, Bool, true, false, is_none, List, [], ◌∷◌}
-use Rattle.std.proofs.Common.{◌++◌, map, length, replicate, ℤ, Option, Some, None, slice_get, if◌then◌else◌, All, refl, sym, ap, ◌∙◌, subst}
+use Rattle.std.proofs.Common.{◌≡◌, ◌≢◌, ◌⊎◌, inl, inr, ℕ, zero, suc, ◌+◌, ◌≤◌, ◌<◌, nat_lt, Bool, true, false, List, [], ◌∷◌}
+use Rattle.std.proofs.Common.{◌++◌, map, length, replicate, ℤ, Option, Some, None, slice_get, if◌then◌else◌, refl, sym, ap, ◌∙◌, subst}
 use Rattle.std.proofs.Common.{length-append, arith}
 use Rattle.std.specs.Option.{option_flatten}
 use Rattle.std.proofs.lemmas.Bool.{ltb-true, ltb-false}
@@ -10,14 +10,12 @@ use Rattle.std.proofs.lemmas.List.Elements.{All-weaker}
 use Rattle.c_tree.specs.declared.items.Function.{Function}
 use Rattle.c_tree.specs.declared.items.Local.{Local}
 use Rattle.c_tree.specs.Slots.{is_automatic, hidden_from, hidden_firsts, locals_of, hidden_slot}
-use Rattle.checked_tree.specs.declared.shapes.Bounds.{Bounds}
 use Rattle.checked_tree.specs.declared.shapes.Bounds.TheVariants as bounds
 use Rattle.checked_tree.specs.declared.shapes.Edge.{Edge}
 use Rattle.checked_tree.specs.declared.shapes.Scalar.{Scalar}
 use Rattle.checked_tree.specs.declared.shapes.Scalar.TheVariants as scalar
 use Rattle.checked_tree.specs.declared.shapes.Shape.{Shape}
 use Rattle.checked_tree.specs.declared.shapes.Shape.TheVariants as shape
-use Rattle.deputy_types.specs.declared.element.Element.{Element}
 use Rattle.deputy_types.specs.declared.element.Element.TheVariants as element
 use Rattle.deputy_types.specs.declared.sibling.Role.{Role}
 use Rattle.deputy_types.specs.declared.sibling.Role.TheVariants as role
@@ -32,10 +30,10 @@ use Rattle.deputy_rules.specs.NameValues.{IsNumber}
 use Rattle.layout_laws.proofs.Lists.{slice_front, slice_behind}
 use Rattle.light_checks.specs.Standing.{Stands}
 use Rattle.light_checks.proofs.DeclaredSlots.{Decl, append_at}
-use Rattle.driver_safety.specs.TypeFacts.{IsInteger, IsText, IsSlotShape, IsTextPointer, IsNamedSlot, IsBaseSlot, IsIntegerSlot, NamesSlots}
+use Rattle.driver_safety.specs.TypeFacts.{IsInteger, IsSlotShape, IsNamedSlot, IsBaseSlot, IsIntegerSlot, NamesSlots}
 use Rattle.driver_safety.specs.TypeFacts.{HasSlots}
-use Rattle.driver_safety.proofs.declarations.DeclaredShapes.{some_same, IsShapeOf, AreBounds, IsSide, StandsOn, CountsIntegers, typed_is}
-use Rattle.driver_safety.proofs.declarations.SlotNames.{FitsRole, role_fits, IsScope, IsDeclaredAs, slot_is, decl_slot, decls, all_siblings}
+use Rattle.driver_safety.proofs.declarations.DeclaredShapes.{some_same, IsShapeOf, IsSide, StandsOn, CountsIntegers, typed_is}
+use Rattle.driver_safety.proofs.declarations.SlotNames.{FitsRole, role_fits, IsScope, IsDeclaredAs, slot_is, decl_slot, all_siblings}
 use Rattle.driver_safety.proofs.declarations.SlotNames.{shown_length}
 
 pub whole_number : (s : Scalar) → IsInteger s → IsNumber (shape.Int s)

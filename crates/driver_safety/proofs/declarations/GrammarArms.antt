@@ -1,11 +1,9 @@
 -- Each union of a text has an arm, since the grammar asks for one.
-use Rattle.std.proofs.Common.{◌≡◌, ℕ, ◌<◌, List, [], ◌∷◌, length, arith}
+use Rattle.std.proofs.Common.{◌<◌, List, ◌∷◌, length, arith}
 use Rattle.c_tree.specs.ItemGrammar.{FieldAt, plain, union, StructAt, struct, ItemAt, struct_item, global_item, function_item, prototype}
 use Rattle.c_tree.specs.Reading.{Each, each_end, each_more}
-use Rattle.c_tree.specs.Units.{IsUnit}
 use Rattle.c_tree.specs.declared.items.Field.{Field}
 use Rattle.c_tree.specs.declared.items.Item.{Item}
-use Rattle.c_tree.specs.declared.items.Item.TheVariants as item
 use Rattle.c_tree.specs.declared.items.StructItem.{StructItem}
 use Rattle.c_tree.specs.declared.words.Token.{Token}
 use Rattle.driver_safety.specs.UnionArms.{HasArms, HaveArms, ItemHasArms, ItemsHaveArms, EachReadUnitHasArms}

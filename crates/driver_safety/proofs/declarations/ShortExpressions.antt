@@ -1,6 +1,6 @@
 -- Short expressions: their numbers and characters are such as C's words can be, and their pointers have light bounds.
-use Rattle.std.proofs.Common.{◌≡◌, inl, inr, ℕ, ◌+◌, ◌*◌, ◌≤◌, ◌<◌, ◌^◌, nat_lt, IsTrue, Bool, true, false, not, cond, ◌&&◌, ◌||◌, ◌==◌}
-use Rattle.std.proofs.Common.{nat_le, List, [], ◌∷◌, ◌++◌, All, unsigned_abs, Option, Some, None, Ok, Contains, refl, sym, ap, ◌∙◌, subst}
+use Rattle.std.proofs.Common.{◌≡◌, inl, inr, ℕ, ◌+◌, ◌*◌, ◌≤◌, ◌<◌, ◌^◌, IsTrue, Bool, true, false, not, cond, ◌&&◌, ◌||◌, ◌==◌}
+use Rattle.std.proofs.Common.{nat_le, List, [], ◌∷◌, ◌++◌, All, Option, Some, None, Ok, Contains, refl, sym, ◌∙◌, subst}
 use Rattle.std.proofs.Common.{arith}
 use Rattle.std.proofs.lemmas.Bool.{and_parts, eqb-true, leb-true, lt-ltb}
 use Rattle.std.proofs.lemmas.Int.{unsigned_abs-mul}
@@ -33,11 +33,8 @@ use Rattle.checked_tree.specs.Light.{reach, reach_of}
 use Rattle.checked_tree.specs.Numbers.{sum_limit}
 use Rattle.deputy_types.specs.Table.{Table}
 use Rattle.deputy_types.specs.UnitLayout.{layout}
-use Rattle.deputy_rules.specs.declared.asked.Asked.{Asked}
-use Rattle.deputy_rules.specs.declared.derived.Derived.{Derived}
 use Rattle.deputy_rules.specs.declared.handed.Handed.{Handed}
 use Rattle.deputy_rules.specs.Context.{Context}
-use Rattle.deputy_rules.specs.Expressions.{derive}
 use Rattle.deputy_rules.specs.Functions.{context_of}
 use Rattle.deputy_rules.specs.Numbering.{Numbered}
 use Rattle.deputy_rules.specs.Statements.{statement_context}
@@ -50,7 +47,7 @@ use Rattle.light_checks.proofs.Refusals.{at_line_within}
 use Rattle.light_checks.proofs.ShortUnits.{context_within}
 use Rattle.driver_safety.specs.Handing.{HaveWords}
 use Rattle.driver_safety.specs.KernelLaw.{IsLight, AreLight}
-use Rattle.driver_safety.specs.LightHandling.{IsLightHanded, HandsLightly}
+use Rattle.driver_safety.specs.LightHandling.{IsLightHanded}
 use Rattle.driver_safety.specs.WrittenNumbers.{words_level, has_words}
 
 -- a number of 32 bits, and a character of 8

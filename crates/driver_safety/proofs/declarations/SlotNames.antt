@@ -1,11 +1,11 @@
 -- The parameters and locals of a function whose declarations stand, by number: each has the slot with its number, and what an annotation
 -- names is the slot with the number that the name has.
-use Rattle.std.proofs.Common.{◌≡◌, ◌≢◌, ◌⊎◌, inl, inr, ℕ, zero, suc, ◌+◌, ◌-◌, ◌≤◌, ◌<◌, ◌^◌, Bool, true, false, cond, not, nat_lt, is_some}
-use Rattle.std.proofs.Common.{List, [], ◌∷◌, ◌++◌, map, length, Option, Some, None, option_map, position, ◌||◌, bytes_eq, slice_get}
-use Rattle.std.proofs.Common.{if◌then◌else◌, All, refl, sym, ap, ◌∙◌, subst, append-nil, append_assoc, arith}
-use Rattle.std.specs.List.{list_any, position_or_len}
+use Rattle.std.proofs.Common.{◌≡◌, ◌⊎◌, inl, inr, ℕ, zero, suc, ◌+◌, ◌≤◌, ◌<◌, Bool, true, false, cond, not, nat_lt, is_some}
+use Rattle.std.proofs.Common.{List, [], ◌∷◌, ◌++◌, map, length, Option, Some, None, option_map, position, bytes_eq, slice_get}
+use Rattle.std.proofs.Common.{if◌then◌else◌, refl, sym, ap, ◌∙◌, subst, append-nil, arith}
+use Rattle.std.specs.List.{position_or_len}
 use Rattle.std.specs.Option.{option_flatten}
-use Rattle.std.proofs.lemmas.Bool.{and_parts, eqb-true, ltb-false, lt-ltb, true≢false}
+use Rattle.std.proofs.lemmas.Bool.{and_parts, ltb-false, lt-ltb}
 use Rattle.std.proofs.lemmas.List.{length-append}
 use Rattle.std.proofs.lemmas.Option.{slice_get-map, slice_get_within}
 use Rattle.c_tree.specs.declared.items.Function.{Function}
@@ -19,7 +19,6 @@ use Rattle.checked_tree.specs.declared.shapes.Shape.TheVariants as shape
 use Rattle.deputy_types.specs.declared.element.Element.{Element}
 use Rattle.deputy_types.specs.declared.element.Element.TheVariants as element
 use Rattle.deputy_types.specs.declared.extent.Extent.{Extent}
-use Rattle.deputy_types.specs.declared.sibling.MemberName.{MemberName}
 use Rattle.deputy_types.specs.declared.sibling.Role.{Role}
 use Rattle.deputy_types.specs.declared.sibling.Role.TheVariants as role
 use Rattle.deputy_types.specs.declared.sibling.Unannotated.{Unannotated}
@@ -27,22 +26,22 @@ use Rattle.deputy_types.specs.declared.sibling.Unannotated.TheVariants.{Safe, Hi
 use Rattle.deputy_types.specs.declared.siblings.Siblings.{Siblings}
 use Rattle.deputy_types.specs.declared.types.Types.{Types}
 use Rattle.deputy_types.specs.Declarations.{plain_shape, pointer_to, pointer_shape, shape_behind, star_bounds, typed_shape, plain_role}
-use Rattle.deputy_types.specs.Declarations.{pointer_role, is_text, numbered_role, role_behind, role_by, declared_role}
+use Rattle.deputy_types.specs.Declarations.{is_text, numbered_role, role_behind, role_by, declared_role}
 use Rattle.deputy_types.specs.Extents.{key_extent}
 use Rattle.deputy_rules.specs.Heads.{with_parameters, parameter_siblings, with_locals, local_siblings, value_shape, named_shape}
 use Rattle.deputy_rules.specs.Heads.{parameter_shape, local_shape, parameter_shapes, with_hidden, slot_shapes, is_over, is_declared}
 use Rattle.deputy_rules.specs.Heads.{declaration_stands, wrong_parameter, wrong_local, or_else, wrong_declaration}
 use Rattle.deputy_rules.specs.Agreement.{same_place}
 use Rattle.deputy_types.specs.Options.{and_then}
-use Rattle.deputy_types.specs.Siblings.{is_member, member_number, sibling_number, role_of, with_sibling, no_siblings}
+use Rattle.deputy_types.specs.Siblings.{is_member, sibling_number, role_of, with_sibling, no_siblings}
 use Rattle.deputy_types.specs.Table.{Table}
 use Rattle.deputy_types.specs.Types.{element_number, pointed_key, last_star}
 use Rattle.deputy_types.proofs.Inversions.{some_then, some_map}
 use Rattle.layout_laws.proofs.Lists.{slice_front, slice_behind}
 use Rattle.light_checks.specs.Standing.{Stands}
-use Rattle.light_checks.proofs.DeclaredSlots.{Decl, first, member_of, decl_role, parameter_decl, with_parameters_is, Aligned, AreFirst}
+use Rattle.light_checks.proofs.DeclaredSlots.{Decl, first, member_of, decl_role, parameter_decl, Aligned, AreFirst}
 use Rattle.light_checks.proofs.DeclaredSlots.{aligned_all, map_length, mapped_named, append_at, if_none, same_is, position_is}
-use Rattle.driver_safety.proofs.declarations.DeclaredShapes.{some_same, given, IsShapeOf, typed_is}
+use Rattle.driver_safety.proofs.declarations.DeclaredShapes.{some_same, given}
 
 -- ---- what a role says of a shape
 abbrev pub FitsRole : Role → Shape → Type 0

@@ -1,22 +1,20 @@
 -- Each struct of a table is what the laws take it for.
-use Rattle.std.proofs.Common.{◌≡◌, ◌≢◌, ◌⊎◌, inl, inr, ℕ, zero, suc, ◌+◌, ◌*◌, ◌^◌, ◌≤◌, ◌<◌, ◌==◌, nat_le, Bool, true, false, not, ◌&&◌}
-use Rattle.std.proofs.Common.{◌||◌, is_some, is_none, List, [], ◌∷◌, ◌++◌, map, length, ℤ, pos, Option, Some, None, option_map, unwrap_or}
-use Rattle.std.proofs.Common.{Result, Ok, Err, IsOkAnd, bytes_eq, slice_get, All, refl, sym, ap, ◌∙◌, subst, true≢false, arith}
+use Rattle.std.proofs.Common.{◌≡◌, ◌≢◌, ℕ, zero, suc, ◌≤◌, ◌<◌, ◌==◌, nat_le, Bool, true, false, not, ◌&&◌}
+use Rattle.std.proofs.Common.{◌||◌, is_some, is_none, List, [], ◌∷◌, map, length, ℤ, Option, Some, None, option_map, unwrap_or}
+use Rattle.std.proofs.Common.{Result, Ok, Err, IsOkAnd, bytes_eq, slice_get, All, refl, sym, ap, ◌∙◌, subst, arith}
 use Rattle.std.specs.List.{list_any}
 use Rattle.std.specs.Option.{option_flatten}
-use Rattle.std.proofs.lemmas.Bool.{and_parts, eqb-true, eq-eqb, leb-true}
-use Rattle.std.proofs.lemmas.List.Elements.{All-head, All-tail, All-nil, All-weaker}
+use Rattle.std.proofs.lemmas.Bool.{and_parts, eqb-true, leb-true}
+use Rattle.std.proofs.lemmas.List.Elements.{All-head, All-tail, All-weaker}
 use Rattle.std.proofs.lemmas.Option.{slice_get-map}
 use Rattle.c_tree.specs.declared.items.Arm.{Arm}
 use Rattle.c_tree.specs.declared.items.Declaration.{Declaration}
-use Rattle.c_tree.specs.declared.items.Field.{Field}
 use Rattle.c_tree.specs.declared.items.Item.{Item}
 use Rattle.c_tree.specs.declared.items.Item.TheVariants as item
 use Rattle.c_tree.specs.declared.items.StructItem.{StructItem}
 use Rattle.c_tree.specs.declared.items.Unit.{Unit as TextUnit}
 use Rattle.c_tree.specs.declared.types.Number.{Number}
 use Rattle.c_tree.specs.declared.types.TypeName.{TypeName}
-use Rattle.checked_tree.specs.declared.shapes.Bounds.{Bounds}
 use Rattle.checked_tree.specs.declared.shapes.Bounds.TheVariants as bounds
 use Rattle.checked_tree.specs.declared.shapes.Edge.{Edge}
 use Rattle.checked_tree.specs.declared.shapes.Member.{Member}
@@ -28,7 +26,6 @@ use Rattle.checked_tree.specs.declared.shapes.StructShape.{StructShape}
 use Rattle.checked_tree.specs.declared.shapes.UnionShape.{UnionShape}
 use Rattle.deputy_types.specs.declared.element.Element.{Element}
 use Rattle.deputy_types.specs.declared.element.Element.TheVariants as element
-use Rattle.deputy_types.specs.declared.extent.Extent.{Extent}
 use Rattle.deputy_types.specs.declared.laying.Laid.{Laid}
 use Rattle.deputy_types.specs.declared.laying.Laying.{Laying}
 use Rattle.deputy_types.specs.declared.refusal.TypeRefusal.{TypeRefusal}
@@ -38,43 +35,41 @@ use Rattle.deputy_types.specs.declared.sibling.Role.TheVariants as role
 use Rattle.deputy_types.specs.declared.sibling.Unannotated.TheVariants as unannotated
 use Rattle.deputy_types.specs.declared.siblings.Siblings.{Siblings}
 use Rattle.deputy_types.specs.declared.struct_names.StructNames.{StructNames}
-use Rattle.deputy_types.specs.declared.types.Types.{Types}
-use Rattle.deputy_types.specs.Declarations.{typed_shape, declared_role}
+use Rattle.deputy_types.specs.Declarations.{declared_role}
 use Rattle.deputy_types.specs.Extents.{AreExtents, round_up_to}
 use Rattle.deputy_types.specs.Fitting.{is_open, shape_size}
-use Rattle.deputy_types.specs.MemberTypes.{member_arrays, member_keys}
 use Rattle.deputy_types.specs.Options.{and_then}
 use Rattle.deputy_types.specs.Siblings.{role_of, no_siblings}
 use Rattle.deputy_types.specs.StructLaws.{shape_extent, AreInOrder, IsLaidOut}
-use Rattle.deputy_types.specs.StructLayout.{Surroundings, siblings_of, element_count, const_value, arm_shape, if_number, tags_of}
-use Rattle.deputy_types.specs.StructLayout.{field_siblings, struct_siblings, empty_struct, laid_out, struct_laid}
-use Rattle.deputy_types.specs.Table.{Table, element_at, field, arm, member_key, is_array, has_names, shape_names, bounds_name, edge_names}
+use Rattle.deputy_types.specs.StructLayout.{Surroundings, siblings_of, element_count, const_value, if_number, tags_of}
+use Rattle.deputy_types.specs.StructLayout.{struct_siblings, empty_struct, laid_out, struct_laid}
+use Rattle.deputy_types.specs.Table.{Table, element_at, field, arm, member_key, is_array, has_names, shape_names, edge_names}
 use Rattle.deputy_types.specs.Table.{is_base, edge_has_names}
 use Rattle.deputy_types.specs.Types.{type_key, base_key, stars_key}
-use Rattle.deputy_types.specs.UnitLayout.{layout, elem_shape}
+use Rattle.deputy_types.specs.UnitLayout.{layout}
 use Rattle.deputy_types.proofs.Inversions.{some_then}
 use Rattle.deputy_rules.specs.NameValues.{IsNumber}
 use Rattle.layout_laws.specs.StructTable.{struct_items, HasStruct}
-use Rattle.layout_laws.specs.MemberLookups.{member_names, arm_names}
+use Rattle.layout_laws.specs.MemberLookups.{member_names}
 use Rattle.layout_laws.proofs.ElementSizes.{scalar_same, struct_bytes}
 use Rattle.layout_laws.proofs.LimitLaws.{keeps_limits}
 use Rattle.layout_laws.proofs.MemberNumbers.{members_found}
 use Rattle.layout_laws.proofs.StructExtents.{laying_of, struct_laying}
-use Rattle.layout_laws.proofs.StructsDeclared.{HasLayouts, layouts_of, structs_declared}
+use Rattle.layout_laws.proofs.StructsDeclared.{layouts_of, structs_declared}
 use Rattle.driver_safety.specs.StructPlaces.{IsLeaf}
-use Rattle.driver_safety.specs.TypeFacts.{IsInteger, key_shape, IsText, IsType, IsAnnotated, IsDeclared, IsSibling, IsBaseOf}
-use Rattle.driver_safety.specs.TypeFacts.{IsIntegerMember, NamesSiblings, BoundsNameSiblings, ShapeNamesSiblings, BoundsNameOthers}
+use Rattle.driver_safety.specs.TypeFacts.{key_shape, IsType, IsDeclared, IsSibling, IsBaseOf}
+use Rattle.driver_safety.specs.TypeFacts.{IsIntegerMember, NamesSiblings, ShapeNamesSiblings}
 use Rattle.driver_safety.specs.TypeFacts.{ShapeNamesOthers, IsOpenStruct, IsArmIn, IsMemberOf, IsTag, IsFilled, IsStructOf}
 use Rattle.driver_safety.specs.UnionArms.{HaveArms, ItemsHaveArms}
 use Rattle.driver_safety.proofs.declarations.ConstantTypes.{typed_key}
-use Rattle.driver_safety.proofs.declarations.DeclaredShapes.{some_same, if_both, IsKeyOf, IsShapeOf, AreBounds, IsSide, StandsOn}
+use Rattle.driver_safety.proofs.declarations.DeclaredShapes.{some_same, if_both, IsKeyOf, IsShapeOf, IsSide, StandsOn}
 use Rattle.driver_safety.proofs.declarations.DeclaredShapes.{CountsIntegers, base_is, stars_are, typed_is}
 use Rattle.driver_safety.proofs.declarations.FunctionSlots.{whole_number}
 use Rattle.driver_safety.proofs.declarations.SlotNames.{FitsRole, role_fits}
-use Rattle.driver_safety.proofs.declarations.StructMembers.{Piece, plain, arm as an_arm, arm_pieces, pieces, name_of, role_for}
+use Rattle.driver_safety.proofs.declarations.StructMembers.{Piece, plain, arm as an_arm, pieces, name_of, role_for}
 use Rattle.driver_safety.proofs.declarations.StructMembers.{is_array_piece, key_for, arrays_are, keys_are, names_are, within_list}
-use Rattle.driver_safety.proofs.declarations.StructMembers.{member_there, none_at, or_false, arm_typed, IsField, IsArm, IsMade, IsUnion}
-use Rattle.driver_safety.proofs.declarations.StructMembers.{SoFar, AreMade, siblings_few, fields_made, rounded_above, no_members}
+use Rattle.driver_safety.proofs.declarations.StructMembers.{member_there, arm_typed, IsField, IsArm, IsMade, IsUnion}
+use Rattle.driver_safety.proofs.declarations.StructMembers.{SoFar, siblings_few, fields_made, rounded_above, no_members}
 
 none_some : {A : Type 0} (a : A) → ◌≡◌ {A = Option A} None (Some a) → ⊥
 none_some a h = absurd cc

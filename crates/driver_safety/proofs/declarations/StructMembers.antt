@@ -2,11 +2,11 @@
 -- own, which begin with it, end within it, and have constants of their own.
 use Rattle.std.proofs.Common.{◌≡◌, ◌≢◌, ◌⊎◌, inl, inr, ℕ, zero, suc, ◌+◌, ◌-◌, ◌*◌, ◌^◌, ◌≤◌, ◌<◌, ◌==◌, max, Bool, true, false, not, ◌&&◌}
 use Rattle.std.proofs.Common.{◌||◌, nat_lt, nat_le, is_some, List, [], ◌∷◌, ◌++◌, map, length, ℤ, Option, Some, None, option_map, unwrap_or}
-use Rattle.std.proofs.Common.{Ok, Err, position, bytes_eq, slice_get, if◌then◌else◌, refl, sym, ap, ◌∙◌, subst, append-nil, append_assoc}
+use Rattle.std.proofs.Common.{Ok, position, bytes_eq, slice_get, if◌then◌else◌, refl, sym, ap, ◌∙◌, subst, append-nil, append_assoc}
 use Rattle.std.proofs.Common.{true≢false, arith}
 use Rattle.std.specs.List.{list_any}
 use Rattle.std.specs.Ordering.{int_eq}
-use Rattle.std.proofs.lemmas.Bool.{and_parts, or_left, or_right, eqb-true, eq-eqb, lt-ltb, ltb-true, leb-true, leb-false}
+use Rattle.std.proofs.lemmas.Bool.{and_parts, or_left, or_right, eqb-true, eq-eqb, ltb-true, leb-true, leb-false}
 use Rattle.std.proofs.lemmas.Bool.Decides.{Decides-int_eq}
 use Rattle.std.proofs.lemmas.List.{length-append}
 use Rattle.std.proofs.lemmas.List.Folds.{list_any-append}
@@ -17,7 +17,6 @@ use Rattle.c_tree.specs.declared.items.Declaration.{Declaration}
 use Rattle.c_tree.specs.declared.items.Field.{Field}
 use Rattle.c_tree.specs.declared.items.Field.TheVariants as field
 use Rattle.c_tree.specs.declared.types.Star.{Star}
-use Rattle.c_tree.specs.declared.items.StructItem.{StructItem}
 use Rattle.checked_tree.specs.declared.shapes.Member.{Member}
 use Rattle.checked_tree.specs.declared.shapes.Scalar.{Scalar}
 use Rattle.checked_tree.specs.declared.shapes.Scalar.TheVariants as scalar
@@ -28,7 +27,6 @@ use Rattle.deputy_types.specs.declared.element.Element.{Element}
 use Rattle.deputy_types.specs.declared.element.Element.TheVariants as element
 use Rattle.deputy_types.specs.declared.extent.Extent.{Extent}
 use Rattle.deputy_types.specs.declared.laying.Arms.{Arms}
-use Rattle.deputy_types.specs.declared.laying.Laid.{Laid}
 use Rattle.deputy_types.specs.declared.laying.Laying.{Laying}
 use Rattle.deputy_types.specs.declared.refusal.TypeRefusal.TheVariants as refusal
 use Rattle.deputy_types.specs.declared.sibling.MemberName.{MemberName}
@@ -38,9 +36,9 @@ use Rattle.deputy_types.specs.declared.sibling.Unannotated.TheVariants as unanno
 use Rattle.deputy_types.specs.declared.siblings.Siblings.{Siblings}
 use Rattle.deputy_types.specs.declared.types.Types.{Types}
 use Rattle.deputy_types.specs.Declarations.{plain_shape, pointer_to, pointer_shape, shape_behind, star_bounds, typed_shape, declared_role}
-use Rattle.deputy_types.specs.Extents.{IsExtent, AreExtents, natural, scalar_extent, no_extent, own_extent, key_extent, stars_extent}
+use Rattle.deputy_types.specs.Extents.{AreExtents, natural, scalar_extent, no_extent, own_extent, key_extent, stars_extent}
 use Rattle.deputy_types.specs.Extents.{greater, type_extent, arm_extent, round_up_to}
-use Rattle.deputy_types.specs.MemberTypes.{arm_arrays, arrays_of, member_arrays, arm_keys, keys_of, member_keys}
+use Rattle.deputy_types.specs.MemberTypes.{arm_arrays, member_arrays, arm_keys, member_keys}
 use Rattle.deputy_types.specs.Options.{and_then}
 use Rattle.deputy_types.specs.Siblings.{is_member, member_number, sibling_number, role_of, is_new_member, with_member, with_sibling}
 use Rattle.deputy_types.specs.Siblings.{no_siblings}
@@ -51,18 +49,17 @@ use Rattle.deputy_types.specs.StructLayout.{is_complete, if_complete, siblings_o
 use Rattle.deputy_types.specs.StructLayout.{with_plain, arms_extent, union_extent, const_value, tag_at, tag_number, is_own_tag, tag_holds}
 use Rattle.deputy_types.specs.StructLayout.{arm_tag, if_number, arm_shape, with_arm_of, with_tagged_arm, with_arm, with_next_arm}
 use Rattle.deputy_types.specs.StructLayout.{with_arms_in_turn, is_new_union, with_union_of, with_union_arms, with_union_at, with_union}
-use Rattle.deputy_types.specs.StructLayout.{with_any_field, empty_struct, with_fields_in_turn, laid_out, head_of_struct, laid_with}
-use Rattle.deputy_types.specs.StructLayout.{struct_laid}
+use Rattle.deputy_types.specs.StructLayout.{empty_struct, with_fields_in_turn}
 use Rattle.deputy_types.specs.Types.{base_key, element_number, stars_key, front_stars, last_star, pointed_key, type_key}
-use Rattle.deputy_types.proofs.Inversions.{some_then, some_map, ok_then, ok_declared, if_ok, unless_ok, within_is}
+use Rattle.deputy_types.proofs.Inversions.{some_then, some_map, ok_then, ok_declared, if_ok, within_is}
 use Rattle.deputy_types.proofs.TypeExtents.{type_is_extent, union_is_extent}
 use Rattle.layout_laws.specs.MemberLookups.{arm_names, member_names}
 use Rattle.layout_laws.proofs.MemberNumbers.{first_number}
 use Rattle.layout_laws.proofs.Lists.{slice_behind}
 use Rattle.driver_safety.specs.TypeFacts.{IsInteger}
 use Rattle.driver_safety.specs.UnionArms.{HaveArms}
-use Rattle.light_checks.proofs.DeclaredSlots.{not_before, joined, is_new, map_push, map_length, append_at}
-use Rattle.driver_safety.proofs.declarations.DeclaredShapes.{some_same, given, if_both, IsShapeOf, typed_is}
+use Rattle.light_checks.proofs.DeclaredSlots.{not_before, joined, is_new, map_push, map_length}
+use Rattle.driver_safety.proofs.declarations.DeclaredShapes.{some_same, if_both, IsShapeOf, typed_is}
 
 -- ---- the members that fields declare
 pub data Piece : Type 0 where

@@ -1,43 +1,36 @@
 -- The table of each text is what the laws take it for.
-use Rattle.std.proofs.Common.{◌≡◌, ◌≢◌, ◌⊎◌, inl, inr, ℕ, zero, suc, ◌+◌, ◌-◌, ◌*◌, ◌^◌, ◌≤◌, ◌<◌, ◌==◌, nat_lt, Bool, true, false, List}
-use Rattle.std.proofs.Common.{[], ◌∷◌, ◌++◌, length, ℤ, Option, Some, None, Ok, slice_get, if◌then◌else◌, All, refl, sym, ap, ◌∙◌, subst}
+use Rattle.std.proofs.Common.{◌≡◌, ◌≢◌, ◌⊎◌, inl, inr, ℕ, zero, suc, ◌+◌, ◌-◌, ◌*◌, ◌^◌, ◌≤◌, ◌<◌, nat_lt, Bool, true, false, List}
+use Rattle.std.proofs.Common.{[], ◌∷◌, length, ℤ, Option, Some, None, Ok, slice_get, if◌then◌else◌, All, refl, sym, ap, ◌∙◌, subst}
 use Rattle.std.proofs.Common.{arith}
 use Rattle.std.proofs.lemmas.Bool.{eqb-true, ltb-true, ltb-false}
 use Rattle.std.proofs.lemmas.List.Elements.{All-head, All-tail}
-use Rattle.c_tree.specs.declared.items.GlobalItem.{GlobalItem}
 use Rattle.c_tree.specs.declared.items.Unit.{Unit as TextUnit}
-use Rattle.c_tree.specs.declared.types.Star.{Star}
 use Rattle.c_tree.specs.declared.types.TypeName.{TypeName}
 use Rattle.checked_tree.specs.declared.shapes.Member.{Member}
-use Rattle.checked_tree.specs.declared.shapes.Shape.{Shape}
 use Rattle.checked_tree.specs.declared.shapes.StructShape.{StructShape}
 use Rattle.checked_tree.specs.declared.units.ImageBlock.{ImageBlock}
 use Rattle.deputy_types.specs.declared.element.Element.{Element}
-use Rattle.deputy_types.specs.declared.element.Element.TheVariants as element
 use Rattle.deputy_types.specs.declared.extent.Extent.{Extent}
 use Rattle.deputy_types.specs.declared.table.GlobalPlace.{GlobalPlace}
-use Rattle.deputy_types.specs.Extents.{IsExtent, key_extent, stars_extent}
-use Rattle.deputy_types.specs.Fitting.{shape_size}
-use Rattle.deputy_types.specs.Options.{and_then}
-use Rattle.deputy_types.specs.StructLaws.{shape_extent, is_arm_of, are_of_one_union, IsBefore, AreInOrder}
-use Rattle.deputy_types.specs.StructLayout.{element_count}
+use Rattle.deputy_types.specs.Extents.{key_extent, stars_extent}
+use Rattle.deputy_types.specs.StructLaws.{shape_extent, are_of_one_union, IsBefore, AreInOrder}
 use Rattle.deputy_types.specs.Table.{Table, element_at, size, global, literal}
 use Rattle.deputy_types.specs.Types.{base_key, are_constant, is_char}
 use Rattle.deputy_types.specs.UnitLayout.{layout}
 use Rattle.deputy_types.proofs.Inversions.{some_then}
 use Rattle.deputy_types.proofs.TypeExtents.{key_is_extent, stars_is_extent}
-use Rattle.layout_laws.specs.LoadImage.{global_items, text_strings, HasBlock, IsBlockOfGlobal, IsBlockOfString}
+use Rattle.layout_laws.specs.LoadImage.{text_strings}
 use Rattle.layout_laws.proofs.ElementLaws.{strings_found}
 use Rattle.layout_laws.proofs.ElementSizes.{type_bytes, elem_at}
 use Rattle.layout_laws.proofs.GlobalNumbers.{globals_found}
 use Rattle.layout_laws.proofs.ImageLaws.{has_image}
-use Rattle.layout_laws.proofs.StructsDeclared.{HasLayouts, layouts_of, structs_nested}
-use Rattle.driver_safety.specs.StructPlaces.{room_of, SameUnion, Beside, before, behind, arms, IsLeaf, AreTidy}
-use Rattle.driver_safety.specs.TypeFacts.{key_shape, IsType, IsGlobal, IsString, HasTypes, IsMemberOf}
+use Rattle.layout_laws.proofs.StructsDeclared.{layouts_of, structs_nested}
+use Rattle.driver_safety.specs.StructPlaces.{room_of, SameUnion, Beside, before, behind, arms, IsLeaf}
+use Rattle.driver_safety.specs.TypeFacts.{key_shape, IsType, IsGlobal, IsString, HasTypes}
 use Rattle.driver_safety.specs.UnionArms.{ItemsHaveArms}
-use Rattle.driver_safety.proofs.declarations.DeclaredShapes.{some_same, if_both, IsKeyOf}
+use Rattle.driver_safety.proofs.declarations.DeclaredShapes.{some_same, if_both}
 use Rattle.driver_safety.proofs.declarations.FoundTypes.{found_types}
-use Rattle.driver_safety.proofs.declarations.StructFacts.{some_count, struct_of, IsOf, struct_is, plain_arm, member_is, key_type, size_is}
+use Rattle.driver_safety.proofs.declarations.StructFacts.{some_count, struct_of, struct_is, plain_arm, member_is, key_type, size_is}
 
 -- ---- members in order
 in_order : (extents : List Extent) (ms : List Member) (j k : ℕ) (a b : Member) → AreInOrder extents ms → j < k → slice_get ms j ≡ Some a

@@ -1,29 +1,25 @@
 -- Every expression that the rules derive is sound.
-use Rattle.std.proofs.Common.{◌≡◌, ℕ, ◌^◌, ◌<◌, ◌≤◌, nat_lt, IsTrue, Bool, true, false, ◌&&◌, List, [], length, Option, Some, option_map}
-use Rattle.std.proofs.Common.{refl, sym, ap, ◌∙◌, subst, arith}
+use Rattle.std.proofs.Common.{◌≡◌, ℕ, ◌^◌, ◌<◌, nat_lt, IsTrue, Bool, true, false, ◌&&◌, List, [], Some}
+use Rattle.std.proofs.Common.{refl, sym, ◌∙◌, subst, arith}
 use Rattle.sd_base.specs.Blocks.{Block}
-use Rattle.c_tree.specs.declared.expressions.Binary.{Binary}
-use Rattle.c_tree.specs.declared.expressions.Unary.{Unary}
 use Rattle.c_tree.specs.declared.expressions.Expr.{Expr, map-Expr, roll-Expr}
 use Rattle.c_tree.specs.declared.expressions.Expr.TheOpen as E
-use Rattle.c_tree.specs.declared.expressions.Expr.TheFolds.{fold-Expr, fold-roll-Expr, ind-Expr}
+use Rattle.c_tree.specs.declared.expressions.Expr.TheFolds.{fold-roll-Expr, ind-Expr}
 use Rattle.c_tree.specs.declared.types.TypeName.{TypeName}
 use Rattle.checked_tree.specs.declared.units.CheckedFn.{CheckedFn}
 use Rattle.checked_tree.specs.Conditions.{State}
 use Rattle.deputy_types.specs.Table.{size}
 use Rattle.deputy_types.proofs.Inversions.{some_map}
 use Rattle.deputy_rules.specs.declared.derived.Derived.{Derived}
-use Rattle.deputy_rules.specs.declared.derived.Pointed.{Pointed}
-use Rattle.deputy_rules.specs.declared.derived.Whole.{Whole}
 use Rattle.deputy_rules.specs.Context.{Context}
-use Rattle.deputy_rules.specs.Deriving.{Deriving, lift}
+use Rattle.deputy_rules.specs.Deriving.{Deriving}
 use Rattle.deputy_rules.specs.Expressions.{level, derive, size_of_type, arrow, subscript}
-use Rattle.deputy_rules.specs.Operators.{number, character, size_constant, unary, cast, binary}
-use Rattle.deputy_rules.specs.Places.{named, followed, dotted}
-use Rattle.deputy_rules.specs.Pointers.{string, indexed_by}
+use Rattle.deputy_rules.specs.Operators.{size_constant, cast}
+use Rattle.deputy_rules.specs.Places.{named}
+use Rattle.deputy_rules.specs.Pointers.{string}
 use Rattle.deputy_rules.specs.Values.{integer_of, pointer_of}
 use Rattle.driver_safety.specs.Derivations.{IsDerived}
-use Rattle.driver_safety.specs.ExpressionLaw.{IsDerivedIn, EachPlaceIsSound, EachValueIsSound}
+use Rattle.driver_safety.specs.ExpressionLaw.{EachPlaceIsSound, EachValueIsSound}
 use Rattle.driver_safety.specs.Goodness.{IsGood}
 use Rattle.driver_safety.specs.Passing.{AreTested}
 use Rattle.driver_safety.specs.TypeFacts.{HasTypes, HasSlots}

@@ -1,12 +1,12 @@
 -- A pointer to the element with a number fits exactly where it reaches what has the shape of the element.
-use Rattle.std.proofs.Common.{◌≡◌, ℕ, ◌+◌, ◌-◌, ◌*◌, ◌≤◌, Bool, List, ℤ, true, Option, Some, option_map, unwrap_or, slice_get, refl, sym}
+use Rattle.std.proofs.Common.{◌≡◌, ℕ, ◌+◌, ◌-◌, ◌*◌, ◌≤◌, Bool, List, ℤ, true, Option, Some, option_map, unwrap_or, slice_get, sym}
 use Rattle.std.proofs.Common.{ap, ◌∙◌, subst}
 use Rattle.sd_base.specs.Blocks.{Block}
 use Rattle.checked_tree.specs.declared.shapes.Shape.{Shape}
 use Rattle.checked_tree.specs.declared.shapes.StructShape.{StructShape}
-use Rattle.deputy_types.specs.Fitting.{Fits, null, in_text, in_bounds, IsBounded, IsOpenPlace, Part, is_open, elem_bytes, shape_size}
+use Rattle.deputy_types.specs.Fitting.{Fits, null, in_text, in_bounds, IsOpenPlace, Part, is_open, elem_bytes, shape_size}
 use Rattle.deputy_types.specs.StructLaws.{IsMultiple}
-use Rattle.driver_safety.specs.Reaching.{IsOpenAt, IsBetween, Reaches, nowhere, into_text, between}
+use Rattle.driver_safety.specs.Reaching.{IsOpenAt, Reaches, nowhere, into_text, between}
 
 some_same : {A : Type 0} (a b : A) → ◌≡◌ {A = Option A} (Some a) (Some b) → a ≡ b
 some_same a b h = cc

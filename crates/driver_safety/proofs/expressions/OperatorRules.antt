@@ -1,6 +1,6 @@
 -- Numbers, and the operators on two integers.
-use Rattle.std.proofs.Common.{◌≡◌, ◌≢◌, ◌⊎◌, inl, inr, ℕ, zero, suc, ◌+◌, ◌-◌, ◌%◌, ◌^◌, ◌<◌, ◌≤◌, nat_lt, IsTrue, Bool, true, false, List}
-use Rattle.std.proofs.Common.{[], ◌∷◌, ℤ, pos, negsuc, ◌+ℤ◌, ◌-ℤ◌, ◌*ℤ◌, neg_ℤ, Option, Some, None, Ok, Err, if◌then◌else◌, refl, sym, ap}
+use Rattle.std.proofs.Common.{◌≡◌, ◌≢◌, ◌⊎◌, inl, inr, ℕ, ◌^◌, ◌<◌, ◌≤◌, nat_lt, IsTrue, Bool, true, false, List}
+use Rattle.std.proofs.Common.{[], ◌∷◌, ℤ, pos, negsuc, ◌-ℤ◌, neg_ℤ, Option, Some, None, Ok, Err, if◌then◌else◌, refl, sym, ap}
 use Rattle.std.proofs.Common.{◌∙◌, subst, arith}
 use Rattle.std.specs.Ordering.{int_eq}
 use Rattle.std.proofs.Math.IntN.{*ℤ_comm}
@@ -20,42 +20,39 @@ use Rattle.checked_tree.specs.declared.shapes.Scalar.{Scalar}
 use Rattle.checked_tree.specs.declared.shapes.Scalar.TheVariants.{Void, U8, I8, U16, I16, I32, U32, Pointer}
 use Rattle.checked_tree.specs.declared.stops.Stop.TheVariants.{Wild}
 use Rattle.checked_tree.specs.declared.units.CheckedFn.{CheckedFn}
-use Rattle.checked_tree.specs.Numbers.{low_bits, signed, converted, is_of, is_value, arithmetic, computed}
-use Rattle.checked_tree.specs.Outcome.{Outcome, Got, ◌>>=◌, Safe}
+use Rattle.checked_tree.specs.Numbers.{low_bits, signed, converted, is_of, is_value, arithmetic}
+use Rattle.checked_tree.specs.Outcome.{Got, ◌>>=◌, Safe}
 use Rattle.checked_tree.specs.Conditions.{State}
 use Rattle.checked_tree.specs.Eval.{eval, tests, test, check_of}
 use Rattle.checked_tree.proofs.Outcomes.{safe_bind}
 use Rattle.deputy_rules.specs.declared.asked.AskedCond.TheVariants as cond
 use Rattle.deputy_rules.specs.declared.derived.Derived.{Derived}
-use Rattle.deputy_rules.specs.declared.derived.Derived.TheVariants as derived
 use Rattle.deputy_rules.specs.declared.derived.Value.TheVariants as value
 use Rattle.deputy_rules.specs.declared.derived.Whole.{Whole}
 use Rattle.deputy_rules.specs.declared.derived.Written.TheVariants as written
 use Rattle.deputy_rules.specs.Context.{Context}
 use Rattle.deputy_rules.specs.Operators.{number, character, size_constant, suffix_scalar, narrow_scalar, promoted, common, on_one, on_two}
-use Rattle.deputy_rules.specs.Operators.{shifted, divided, negative_number, negative_by, negative, negation, not_by, minus, on_integer}
-use Rattle.deputy_rules.specs.Operators.{not_of, dereferenced, unary, integer_key, base_scalar, starless, integer_type, cast_to, cast_by}
-use Rattle.deputy_rules.specs.Operators.{cast, family_of, compared, joined, integers_compared, addresses_compared, on_integers}
+use Rattle.deputy_rules.specs.Operators.{divided, negative_by, negative, negation, not_by, minus, on_integer}
+use Rattle.deputy_rules.specs.Operators.{not_of, unary, base_scalar, starless, integer_type, cast_to, cast_by}
+use Rattle.deputy_rules.specs.Operators.{cast, family_of, compared, joined, on_integers}
 use Rattle.deputy_rules.specs.Operators.{pointer_plus, moved_unless_text, compared_with_zero, zero_compared, on_pointer_and_integer}
-use Rattle.deputy_rules.specs.Operators.{on_integer_and_pointer, alike, pointers_compared, on_pointers, pointer_and_null, null_and_pointer}
+use Rattle.deputy_rules.specs.Operators.{on_integer_and_pointer, alike, on_pointers, pointer_and_null, null_and_pointer}
 use Rattle.deputy_rules.specs.Operators.{on_null, on_values, binary, computed as of_type}
 use Rattle.deputy_rules.specs.Places.{is_unsigned}
 use Rattle.deputy_rules.specs.Sums.{side, side_by, constant_part}
 use Rattle.deputy_rules.specs.SumValues.{part_at, PartHasValue}
-use Rattle.driver_safety.specs.Derivations.{IsWhole, IsPointer, HasType, IsValue, IsDerived}
+use Rattle.driver_safety.specs.Derivations.{IsWhole, HasType, IsValue, IsDerived}
 use Rattle.driver_safety.specs.Goodness.{IsGood}
 use Rattle.driver_safety.specs.TypeFacts.{HasTypes, HasSlots, IsInteger}
 use Rattle.checked_tree.proofs.Conversions.{converted_same}
 use Rattle.driver_safety.proofs.checks.Evaluations.{safe_same, safe_weaker, Pass, pass_none, pass_one, eval-Number, eval-Null, eval-Unary}
 use Rattle.driver_safety.proofs.checks.Evaluations.{eval-Binary, eval-Compare, eval-Logical}
 use Rattle.checked_tree.proofs.NumberRanges.{of_value, converted_of}
-use Rattle.checked_tree.proofs.Peeking.{eval_peek}
 use Rattle.driver_safety.proofs.checks.Sounding.{Sound, then_sound, pure_sound, lift_sound, if_sound, none_sound, ask_sound, weaker}
 use Rattle.driver_safety.proofs.expressions.PlaceRules.{followed_sound}
 use Rattle.driver_safety.proofs.expressions.PointerRules.{address_sound, moved_sound}
 use Rattle.driver_safety.proofs.expressions.ReadRules.{integer_safe, value_sound}
 use Rattle.driver_safety.proofs.expressions.TextRules.{text_sum_sound}
-use Rattle.deputy_rules.proofs.SumsHave.{atom_is, atom_reads}
 use Rattle.c_tree.specs.declared.expressions.Binary.{Binary}
 use Rattle.c_tree.specs.declared.expressions.Binary.TheVariants as binary_op
 use Rattle.c_tree.specs.declared.expressions.Unary.{Unary}
@@ -74,8 +71,6 @@ use Rattle.checked_tree.specs.declared.expressions.Unary.TheVariants as operator
 use Rattle.checked_tree.specs.Conditions.{logical}
 use Rattle.checked_tree.specs.Numbers.{comparison, has_all, holds, truth, unary as unary_value}
 use Rattle.checked_tree.proofs.Conversions.{wider}
-use Rattle.deputy_types.specs.declared.element.Element.{Element}
-use Rattle.deputy_types.specs.declared.element.Element.TheVariants as element
 use Rattle.deputy_types.specs.Types.{base_key}
 use Rattle.deputy_types.proofs.Inversions.{some_then, some_map}
 use Rattle.deputy_rules.specs.declared.derived.Pointed.{Pointed}
@@ -83,8 +78,7 @@ use Rattle.deputy_rules.specs.declared.derived.Value.{Value}
 use Rattle.deputy_rules.specs.declared.derived.Written.{Written}
 use Rattle.deputy_rules.specs.declared.families.Family.{Family}
 use Rattle.deputy_rules.specs.declared.families.Family.TheVariants as family
-use Rattle.deputy_rules.specs.Deriving.{Deriving, lift, none, pure}
-use Rattle.deputy_rules.specs.Pointers.{address_of, is_written, moved}
+use Rattle.deputy_rules.specs.Pointers.{address_of, is_written}
 use Rattle.deputy_rules.specs.Sums.{constant_of}
 use Rattle.deputy_rules.specs.Values.{value_of, integer_of, pointer_of, whole, pointed}
 

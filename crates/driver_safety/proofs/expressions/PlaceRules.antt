@@ -1,8 +1,7 @@
 -- Places: what a pointer points to, its elements, members of structs and arms of unions.
 use Rattle.std.proofs.Common.{◌≡◌, ◌≢◌, ℕ, zero, suc, ◌+◌, ◌-◌, ◌*◌, ◌^◌, ◌<◌, ◌≤◌, IsTrue, Bool, true, false, not, List, [], ◌∷◌, ◌++◌}
-use Rattle.std.proofs.Common.{All, ℤ, pos, negsuc, ◌+ℤ◌, ◌*ℤ◌, int_le, Option, Some, None, option_map, unwrap_or, Ok, slice_get}
+use Rattle.std.proofs.Common.{ℤ, pos, negsuc, ◌+ℤ◌, ◌*ℤ◌, int_le, Option, Some, None, option_map, unwrap_or, Ok, slice_get}
 use Rattle.std.proofs.Common.{if◌then◌else◌, refl, sym, ap, ◌∙◌, subst, arith}
-use Rattle.std.specs.List.{Contains}
 use Rattle.std.specs.Ordering.{int_eq}
 use Rattle.std.proofs.Math.IntN.{*ℤ_comm}
 use Rattle.std.proofs.lemmas.Bool.Decides.{Decides-int_eq}
@@ -18,8 +17,7 @@ use Rattle.checked_tree.specs.declared.shapes.Shape.{Shape}
 use Rattle.checked_tree.specs.declared.shapes.Shape.TheVariants as shape
 use Rattle.checked_tree.specs.declared.shapes.StructShape.{StructShape}
 use Rattle.checked_tree.specs.declared.shapes.UnionShape.{UnionShape}
-use Rattle.checked_tree.specs.declared.sums.Part.{Part}
-use Rattle.checked_tree.specs.declared.sums.Part.TheVariants.{Constant, Atom}
+use Rattle.checked_tree.specs.declared.sums.Part.TheVariants.{Atom}
 use Rattle.checked_tree.specs.declared.sums.Sum.{Sum}
 use Rattle.checked_tree.specs.declared.units.CheckedFn.{CheckedFn}
 use Rattle.checked_tree.specs.declared.units.ImageBlock.{ImageBlock}
@@ -28,7 +26,7 @@ use Rattle.checked_tree.specs.Conditions.{State, peek, eval_level}
 use Rattle.checked_tree.specs.Eval.{eval, tests, test, check_of}
 use Rattle.checked_tree.specs.Memory.{load, value_from}
 use Rattle.byte_memory.specs.Bytes.{little_endian, bytes_at}
-use Rattle.checked_tree.specs.Numbers.{address, is_of, is_value, is_word, scalar_size, converted}
+use Rattle.checked_tree.specs.Numbers.{address, is_of, is_value, scalar_size, converted}
 use Rattle.checked_tree.specs.Outcome.{Outcome, Got, ◌>>=◌, Safe}
 use Rattle.checked_tree.proofs.Equations.{at-Load, at-Field}
 use Rattle.checked_tree.proofs.NumberRanges.{of_value, converted_of}
@@ -38,15 +36,14 @@ use Rattle.c_tree.specs.Slots.{slot_named}
 use Rattle.deputy_types.specs.declared.element.Element.{Element}
 use Rattle.deputy_types.specs.declared.element.Element.TheVariants as element
 use Rattle.deputy_types.specs.declared.table.GlobalPlace.{GlobalPlace}
-use Rattle.deputy_types.specs.Fitting.{IsInText, Part as Lies, whole, is_any, is_open, is_used, shape_size, elem_bytes, place_value}
+use Rattle.deputy_types.specs.Fitting.{IsInText, whole, is_open, is_used, shape_size, place_value}
 use Rattle.deputy_types.specs.Fitting.{member_value}
 use Rattle.deputy_types.specs.StructLaws.{IsMultiple}
-use Rattle.deputy_types.specs.Table.{element_at, member, member_key, member_shape, members_of, is_array, field, arm, global, union_of}
+use Rattle.deputy_types.specs.Table.{element_at, member, member_key, member_shape, is_array, field, arm, global, union_of}
 use Rattle.deputy_types.specs.Table.{union_shape}
 use Rattle.deputy_types.specs.UnitLayout.{elem_shape}
 use Rattle.deputy_types.proofs.Inversions.{some_then, some_map}
 use Rattle.deputy_rules.specs.declared.asked.AskedCond.TheVariants as cond
-use Rattle.deputy_rules.specs.declared.derived.ArrayPlace.{ArrayPlace}
 use Rattle.deputy_rules.specs.declared.derived.Derived.{Derived}
 use Rattle.deputy_rules.specs.declared.derived.Derived.TheVariants as derived
 use Rattle.deputy_rules.specs.declared.derived.FoundArm.{FoundArm}
@@ -58,29 +55,28 @@ use Rattle.deputy_rules.specs.declared.derived.UnionPlace.{UnionPlace}
 use Rattle.deputy_rules.specs.declared.derived.Value.TheVariants as value
 use Rattle.deputy_rules.specs.declared.derived.Whole.{Whole}
 use Rattle.deputy_rules.specs.Context.{Context, slot_shape}
-use Rattle.deputy_rules.specs.Deriving.{Deriving, pure, ask}
+use Rattle.deputy_rules.specs.Deriving.{ask}
 use Rattle.deputy_rules.specs.Places.{not_null_by, not_null, through, through_text, followed, is_unsigned, not_below, not_above, moved_sum}
-use Rattle.deputy_rules.specs.Places.{index_checks, indexed_at, indexed, struct_of, struct_key, struct_by, plain_member, array_member}
-use Rattle.deputy_rules.specs.Places.{member_at, member_place, part_by, part_of, found_with, found_in, found_member, found_arm, arm_at}
-use Rattle.deputy_rules.specs.Places.{arm_place, dotted, block_place, global_place, local_of, named_by, named}
-use Rattle.deputy_rules.specs.Sums.{constant, beyond, with_part, times, side, side_by, constant_of}
-use Rattle.deputy_rules.specs.SumValues.{got_or_zero, part_at, parts_at, PartHasValue, HasValue}
+use Rattle.deputy_rules.specs.Places.{index_checks, indexed, struct_of, struct_key, struct_by, plain_member, array_member}
+use Rattle.deputy_rules.specs.Places.{member_at, member_place, part_by, part_of, found_with, found_arm, arm_at}
+use Rattle.deputy_rules.specs.Places.{arm_place, dotted, block_place, global_place, named_by, named}
+use Rattle.deputy_rules.specs.Sums.{constant, beyond, times, side, side_by, constant_of}
+use Rattle.deputy_rules.specs.SumValues.{got_or_zero, part_at, PartHasValue, HasValue}
 use Rattle.deputy_rules.specs.Values.{container, container_or, member_part, loaded_as, size_of}
 use Rattle.deputy_rules.proofs.BareValues.{peek_bare}
 use Rattle.deputy_rules.proofs.SumsHave.{has_beyond, has_constant, has_with_part, compared_is}
-use Rattle.driver_safety.specs.Derivations.{IsWhole, IsPointer, IsPlace, IsArray, IsUnion, IsElementAt, IsStructAt, IsMemberAt, LiesAt}
+use Rattle.driver_safety.specs.Derivations.{IsWhole, IsPointer, IsPlace, IsElementAt, IsStructAt, IsMemberAt, LiesAt}
 use Rattle.driver_safety.specs.Derivations.{IsValue, IsDerived}
 use Rattle.driver_safety.specs.Goodness.{IsGood, IsBlock, IsGranted}
-use Rattle.driver_safety.specs.Passing.{IsTested}
 use Rattle.driver_safety.specs.Reaching.{IsOpenAt, IsBetween, Reaches, nowhere, into_text, between}
-use Rattle.driver_safety.specs.TypeFacts.{HasTypes, IsType, IsMemberOf, IsOpenStruct, IsTag, IsGlobal, key_shape}
+use Rattle.driver_safety.specs.TypeFacts.{HasTypes, IsMemberOf, IsOpenStruct, IsTag, IsGlobal, key_shape}
 use Rattle.driver_safety.proofs.checks.Evaluations.{safe_weaker, safe_same, Pass, pass_none, pass_one, pass_then, eval-Block, eval-Through}
 use Rattle.driver_safety.proofs.checks.Evaluations.{eval-Element, eval-Field}
 use Rattle.driver_safety.proofs.checks.Sounding.{Sound, then_sound, pure_sound, lift_sound, if_sound, none_sound, ask_sound, weaker}
 use Rattle.driver_safety.proofs.expressions.ReadRules.{member_found, loaded, struct_block, no_void}
-use Rattle.driver_safety.proofs.expressions.Steps.{times_pos, le_pos, pos_le, pos_same, IsNatural, unsigned_natural, address_is, word_at}
-use Rattle.driver_safety.proofs.expressions.Steps.{Step, forward, step_of, HasLanded, lands, open_there}
-use Rattle.driver_safety.proofs.memory.Lying.{IsWithin, open_within, inside_block, below_block, member_within, member_open, used_none}
+use Rattle.driver_safety.proofs.expressions.Steps.{le_pos, pos_le, unsigned_natural, address_is}
+use Rattle.driver_safety.proofs.expressions.Steps.{Step, forward, step_of, lands, open_there}
+use Rattle.driver_safety.proofs.memory.Lying.{IsWithin, open_within, below_block, member_within, member_open, used_none}
 
 some_same : {A : Type 0} (a b : A) → ◌≡◌ {A = Option A} (Some a) (Some b) → a ≡ b
 some_same a b h = cc

@@ -1,41 +1,31 @@
 -- Pointers: addresses, strings, and sums of a pointer and an integer.
-use Rattle.std.proofs.Common.{◌≡◌, ◌≢◌, ℕ, zero, suc, ◌+◌, ◌-◌, ◌*◌, ◌^◌, ◌<◌, ◌≤◌, ◌==◌, nat_lt, IsTrue, Bool, true, false, not, ◌&&◌}
-use Rattle.std.proofs.Common.{◌||◌, List, [], ◌∷◌, ◌++◌, ℤ, pos, negsuc, ◌+ℤ◌, ◌-ℤ◌, ◌*ℤ◌, neg_ℤ, int_le, Option, Some, None, is_none}
-use Rattle.std.proofs.Common.{option_map, unwrap_or, Ok, slice_get, slice_index_or, if◌then◌else◌, refl, sym, ap, ◌∙◌, subst, arith}
-use Rattle.std.specs.List.{Contains, list_any, list_all}
-use Rattle.std.proofs.Math.IntN.{*ℤ_comm}
-use Rattle.std.proofs.lemmas.Bool.{lt-ltb}
-use Rattle.std.proofs.lemmas.Bool.Decides.{Decides-eqb}
+use Rattle.std.proofs.Common.{◌≡◌, ◌≢◌, ℕ, zero, suc, ◌+◌, ◌*◌, ◌^◌, ◌<◌, ◌≤◌, ◌==◌, IsTrue, Bool, true, false, not, ◌&&◌}
+use Rattle.std.proofs.Common.{List, [], ◌++◌, ℤ, pos, ◌+ℤ◌, ◌-ℤ◌, ◌*ℤ◌, neg_ℤ, int_le, Option, Some, None, is_none}
+use Rattle.std.proofs.Common.{option_map, unwrap_or, slice_get, if◌then◌else◌, refl, sym, ap, ◌∙◌, subst, arith}
+use Rattle.std.specs.List.{list_any}
 use Rattle.std.proofs.lemmas.Int.{ints}
-use Rattle.std.proofs.lemmas.Nat.{mul-le}
 use Rattle.dep_expr.proofs.Integers.{neg-mul}
 use Rattle.sd_base.specs.Blocks.{Block, block_end}
-use Rattle.sd_base.specs.declared.kinds.CheckKind.TheVariants as kind
-use Rattle.byte_memory.specs.Bytes.{bytes_at}
 use Rattle.checked_tree.specs.declared.expressions.CheckedExpr.{CheckedExpr}
 use Rattle.checked_tree.specs.declared.expressions.CheckedExpr.TheVariants as form
 use Rattle.checked_tree.specs.declared.expressions.PointerSum.{PointerSum}
 use Rattle.checked_tree.specs.declared.expressions.PointerSum.TheVariants as pointer_sum
 use Rattle.checked_tree.specs.declared.shapes.Member.{Member}
 use Rattle.checked_tree.specs.declared.shapes.Scalar.{Scalar}
-use Rattle.checked_tree.specs.declared.shapes.Scalar.TheVariants.{U8}
 use Rattle.checked_tree.specs.declared.shapes.Shape.{Shape}
 use Rattle.checked_tree.specs.declared.shapes.StructShape.{StructShape}
 use Rattle.checked_tree.specs.declared.sums.Sum.{Sum}
 use Rattle.checked_tree.specs.declared.units.CheckedFn.{CheckedFn}
 use Rattle.checked_tree.specs.declared.units.ImageBlock.{ImageBlock}
 use Rattle.checked_tree.specs.Conditions.{State, parts, moved as moved_by}
-use Rattle.checked_tree.specs.Eval.{eval, tests, test, check_of}
-use Rattle.checked_tree.specs.Numbers.{address, is_of, is_word}
-use Rattle.checked_tree.specs.Outcome.{Outcome, Got, ◌>>=◌, Safe}
+use Rattle.checked_tree.specs.Eval.{eval, tests}
+use Rattle.checked_tree.specs.Numbers.{address, is_of}
+use Rattle.checked_tree.specs.Outcome.{Got, Safe}
 use Rattle.checked_tree.proofs.Outcomes.{safe_bind}
 use Rattle.deputy_types.specs.declared.element.Element.{Element}
-use Rattle.deputy_types.specs.declared.element.Element.TheVariants as element
-use Rattle.deputy_types.specs.Fitting.{IsInText, is_open, shape_size}
-use Rattle.deputy_types.specs.StructLaws.{IsMultiple}
-use Rattle.deputy_types.specs.Table.{member, member_key, members_of, is_tag, is_named, has_names, literal, shape_names}
+use Rattle.deputy_types.specs.Fitting.{is_open, shape_size}
+use Rattle.deputy_types.specs.Table.{member, member_key, is_tag, is_named, has_names, literal, shape_names}
 use Rattle.deputy_types.proofs.Inversions.{some_then, some_map, if_some}
-use Rattle.deputy_rules.specs.declared.asked.AskedCond.TheVariants as cond
 use Rattle.deputy_rules.specs.declared.derived.Derived.{Derived}
 use Rattle.deputy_rules.specs.declared.derived.Derived.TheVariants as derived
 use Rattle.deputy_rules.specs.declared.derived.Place.{Place}
@@ -44,32 +34,25 @@ use Rattle.deputy_rules.specs.declared.derived.Source.{Source}
 use Rattle.deputy_rules.specs.declared.derived.Source.TheVariants as source
 use Rattle.deputy_rules.specs.declared.derived.Value.TheVariants as value
 use Rattle.deputy_rules.specs.declared.derived.Whole.{Whole}
-use Rattle.deputy_rules.specs.declared.derived.Written.{Written}
-use Rattle.deputy_rules.specs.declared.derived.Written.TheVariants as written
 use Rattle.deputy_rules.specs.Context.{Context}
-use Rattle.deputy_rules.specs.Deriving.{Deriving, pure, ask}
-use Rattle.deputy_rules.specs.Places.{is_unsigned, moved_sum, indexed}
-use Rattle.deputy_rules.specs.Pointers.{pointer, string_at, string, has_address, addressed_member, addressed, address_at, address_of_place}
-use Rattle.deputy_rules.specs.Pointers.{address_of, step_size, may_fall, may_rise, move_checks, moved_to, moved, is_written, not_ended}
-use Rattle.deputy_rules.specs.Pointers.{text_checks, text_to, text_moved, text_stepped, text_sum, text_second, text_indexed, indexed_by}
-use Rattle.deputy_rules.specs.Sums.{constant, beyond, side, side_by, constant_of}
-use Rattle.deputy_rules.specs.SumValues.{part_at, parts_at, PartHasValue, HasValue}
+use Rattle.deputy_rules.specs.Places.{is_unsigned, moved_sum}
+use Rattle.deputy_rules.specs.Pointers.{string_at, string, has_address, addressed_member, addressed, address_at, address_of_place}
+use Rattle.deputy_rules.specs.Pointers.{address_of, step_size, may_fall, may_rise, move_checks, moved}
+use Rattle.deputy_rules.specs.SumValues.{HasValue}
 use Rattle.deputy_rules.specs.Values.{size_of}
 use Rattle.deputy_rules.proofs.SumsHave.{has_beyond, has_constant}
-use Rattle.driver_safety.specs.Derivations.{IsWhole, IsPointer, IsPlace, IsElementAt, IsMemberAt, LiesAt, IsValue, IsDerived}
+use Rattle.driver_safety.specs.Derivations.{IsWhole, IsPointer, IsElementAt, IsMemberAt, LiesAt, IsValue, IsDerived}
 use Rattle.driver_safety.specs.Goodness.{IsGood, IsBlock, IsGranted}
-use Rattle.driver_safety.specs.Passing.{IsInside, place_of, clear_at}
-use Rattle.driver_safety.specs.Reaching.{IsOpenAt, IsBetween, Reaches, nowhere, into_text, between}
-use Rattle.driver_safety.specs.TypeFacts.{HasTypes, IsType, IsMemberOf, IsString, key_shape}
-use Rattle.driver_safety.proofs.checks.Evaluations.{safe_weaker, safe_same, Pass, pass_none, pass_one, pass_then, eval-Block}
-use Rattle.driver_safety.proofs.checks.Evaluations.{eval-AddressOf, eval-Through, eval-Moved}
-use Rattle.driver_safety.proofs.checks.Sounding.{Sound, then_sound, pure_sound, lift_sound, if_sound, none_sound, ask_sound, weaker}
-use Rattle.driver_safety.proofs.expressions.PlaceRules.{not_null_sound, below_sound, above_sound, moved_has, in_block, IsInBlock}
-use Rattle.driver_safety.proofs.expressions.PlaceRules.{text_there, text_place, through_text_sound, indexed_sound}
+use Rattle.driver_safety.specs.Reaching.{IsOpenAt, IsBetween, Reaches, into_text, between}
+use Rattle.driver_safety.specs.TypeFacts.{HasTypes, IsMemberOf, IsString, key_shape}
+use Rattle.driver_safety.proofs.checks.Evaluations.{safe_weaker, safe_same, Pass, pass_then, eval-Block}
+use Rattle.driver_safety.proofs.checks.Evaluations.{eval-AddressOf, eval-Moved}
+use Rattle.driver_safety.proofs.checks.Sounding.{Sound, then_sound, pure_sound}
+use Rattle.driver_safety.proofs.expressions.PlaceRules.{not_null_sound, below_sound, above_sound, moved_has, in_block}
 use Rattle.driver_safety.proofs.expressions.ReadRules.{member_found, struct_block}
-use Rattle.driver_safety.proofs.expressions.Steps.{times_pos, le_pos, pos_le, pos_same, IsNatural, unsigned_natural, address_is, word_at}
-use Rattle.driver_safety.proofs.expressions.Steps.{Step, forward, backward, step_of, back, HasLanded, lands}
-use Rattle.driver_safety.proofs.memory.Lying.{IsWithin, open_within, member_open}
+use Rattle.driver_safety.proofs.expressions.Steps.{le_pos, pos_le, pos_same, IsNatural, unsigned_natural, address_is, word_at}
+use Rattle.driver_safety.proofs.expressions.Steps.{Step, step_of, back, lands}
+use Rattle.driver_safety.proofs.memory.Lying.{open_within, member_open}
 
 some_same : {A : Type 0} (a b : A) → ◌≡◌ {A = Option A} (Some a) (Some b) → a ≡ b
 some_same a b h = cc

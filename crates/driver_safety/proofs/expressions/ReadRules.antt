@@ -1,13 +1,12 @@
 -- Reading: the value of a local, of a place and of an array.
-use Rattle.std.proofs.Common.{◌≡◌, ◌≢◌, ℕ, zero, suc, ◌+◌, ◌-◌, ◌*◌, ◌%◌, ◌^◌, ◌<◌, ◌≤◌, nat_lt, IsTrue, Bool, true, false, List, [], ◌∷◌}
+use Rattle.std.proofs.Common.{◌≡◌, ◌≢◌, ℕ, zero, suc, ◌+◌, ◌*◌, ◌^◌, ◌<◌, ◌≤◌, nat_lt, IsTrue, Bool, true, false, List, [], ◌∷◌}
 use Rattle.std.proofs.Common.{All, ℤ, pos, ◌+ℤ◌, ◌*ℤ◌, Option, Some, None, option_map, unwrap_or, Ok, slice_get, refl, sym, ap, ◌∙◌, subst}
 use Rattle.std.proofs.Common.{arith}
-use Rattle.std.proofs.Math.IntN.{*ℤ_comm}
 use Rattle.std.proofs.lemmas.Bool.{lt-ltb}
 use Rattle.std.proofs.lemmas.Int.{ints}
 use Rattle.std.proofs.lemmas.Nat.{mul-le}
 use Rattle.std.proofs.lemmas.List.Elements.{All-nil, All-cons, All-head, All-tail}
-use Rattle.sd_base.specs.Blocks.{Block, block_end}
+use Rattle.sd_base.specs.Blocks.{Block}
 use Rattle.byte_memory.specs.Bytes.{little_endian, bytes_at}
 use Rattle.byte_memory.specs.Tested.{is_inside}
 use Rattle.c_tree.specs.Slots.{hidden_slot}
@@ -29,8 +28,8 @@ use Rattle.checked_tree.specs.Conditions.{State}
 use Rattle.checked_tree.specs.Edges.{edge_value}
 use Rattle.checked_tree.specs.Eval.{eval}
 use Rattle.checked_tree.specs.Memory.{load, value_from}
-use Rattle.checked_tree.specs.Numbers.{is_of, is_word, is_value, scalar_size, converted}
-use Rattle.checked_tree.specs.Outcome.{Outcome, Got, ◌>>=◌, Safe}
+use Rattle.checked_tree.specs.Numbers.{is_of, is_word, scalar_size, converted}
+use Rattle.checked_tree.specs.Outcome.{Safe}
 use Rattle.checked_tree.proofs.Conversions.{converted_same}
 use Rattle.checked_tree.proofs.NumberRanges.{of_value, converted_of, word_value}
 use Rattle.checked_tree.proofs.Outcomes.{safe_bind}
@@ -38,35 +37,33 @@ use Rattle.checked_tree.proofs.Peeking.{eval_peek}
 use Rattle.deputy_types.specs.declared.element.Element.{Element}
 use Rattle.deputy_types.specs.declared.element.Element.TheVariants as element
 use Rattle.deputy_types.specs.Declarations.{own as own_edge, up_to, with_bytes}
-use Rattle.deputy_types.specs.Fitting.{Fits, FitsBounds, HoldsFitting, IsInText, place_value, member_value, shape_size}
+use Rattle.deputy_types.specs.Fitting.{FitsBounds, HoldsFitting, IsInText, member_value, shape_size}
 use Rattle.deputy_types.specs.Table.{Table, element_at, elem_size, member as table_member}
 use Rattle.deputy_types.specs.UnitLayout.{elem_shape}
 use Rattle.deputy_types.proofs.Inversions.{some_then, some_map}
 use Rattle.deputy_rules.specs.declared.derived.ArrayPlace.{ArrayPlace}
 use Rattle.deputy_rules.specs.declared.derived.Derived.{Derived}
 use Rattle.deputy_rules.specs.declared.derived.Derived.TheVariants as derived
-use Rattle.deputy_rules.specs.declared.derived.Place.{Place}
 use Rattle.deputy_rules.specs.declared.derived.Pointed.{Pointed}
 use Rattle.deputy_rules.specs.declared.derived.Source.{Source}
 use Rattle.deputy_rules.specs.declared.derived.Source.TheVariants as source
 use Rattle.deputy_rules.specs.declared.derived.Value.{Value}
-use Rattle.deputy_rules.specs.declared.derived.Value.TheVariants as value
 use Rattle.deputy_rules.specs.declared.derived.Written.TheVariants as written
 use Rattle.deputy_rules.specs.Context.{Context, slot_shape}
 use Rattle.deputy_rules.specs.NameValues.{local_at, IsNumber, IsNamed, IsNamedBase, AreNamed, IsStructPlace}
 use Rattle.deputy_rules.specs.Sums.{atom, side, with_part}
 use Rattle.deputy_rules.specs.SumValues.{HasValue}
-use Rattle.deputy_rules.specs.Values.{address, integer, pointer_to, bounded_pointer, hidden_pointer, local_pointer, low_sum, high_sum}
+use Rattle.deputy_rules.specs.Values.{address, integer, bounded_pointer, hidden_pointer, local_pointer, low_sum, high_sum}
 use Rattle.deputy_rules.specs.Values.{edge_sum, slot_sum, local_value, slot_value, source_value, element_value, counted_pointer}
 use Rattle.deputy_rules.specs.Values.{text_pointer, member_value as value_of_member, array_value, value_of, of_struct, of_slots, container}
-use Rattle.deputy_rules.specs.Values.{loaded_as, size_of, is_nullterm}
+use Rattle.deputy_rules.specs.Values.{loaded_as, size_of}
 use Rattle.deputy_rules.proofs.NamesHave.{slot_edge, member_edge, load_is, word_below}
 use Rattle.deputy_rules.proofs.SumsHave.{has_atom, has_bare, has_with_part, atom_is, atom_reads}
-use Rattle.driver_safety.specs.Derivations.{IsWhole, IsPointer, IsPlace, IsArray, IsElementAt, IsStructAt, IsMemberAt, LiesAt, IsValue}
+use Rattle.driver_safety.specs.Derivations.{IsWhole, IsPointer, IsArray, IsElementAt, IsStructAt, IsMemberAt, LiesAt, IsValue}
 use Rattle.driver_safety.specs.Derivations.{IsDerived}
-use Rattle.driver_safety.specs.Goodness.{IsGood, IsBlock, SlotHolds, SlotFits, FitsHidden}
-use Rattle.driver_safety.specs.Reaching.{IsOpenAt, IsBetween, Reaches, nowhere, into_text, between}
-use Rattle.driver_safety.specs.TypeFacts.{HasTypes, HasSlots, IsInteger, IsType, IsText, IsTextPointer, IsSlotShape, IsDeclared}
+use Rattle.driver_safety.specs.Goodness.{IsGood, IsBlock, SlotHolds, FitsHidden}
+use Rattle.driver_safety.specs.Reaching.{IsOpenAt, Reaches, between}
+use Rattle.driver_safety.specs.TypeFacts.{HasTypes, HasSlots, IsInteger, IsType, IsTextPointer, IsSlotShape, IsDeclared}
 use Rattle.driver_safety.specs.TypeFacts.{IsAnnotated, IsMemberOf, IsSibling, NamesSiblings, ShapeNamesSiblings, IsBaseOf, key_shape}
 use Rattle.driver_safety.proofs.checks.Evaluations.{safe_same, safe_weaker, eval-Local, eval-Load, eval-AddressOf}
 use Rattle.driver_safety.proofs.expressions.FitsAndReaches.{reaches, other_bounds}

@@ -1,20 +1,19 @@
 -- A pointer that is moved by whole elements: where it lands, and what lies there.
-use Rattle.std.proofs.Common.{◌≡◌, ◌≢◌, ℕ, zero, suc, ◌+◌, ◌-◌, ◌*◌, ◌^◌, ◌<◌, ◌≤◌, nat_lt, nat_le, IsTrue, Bool, true, false, List, ℤ, pos}
-use Rattle.std.proofs.Common.{negsuc, ◌+ℤ◌, ◌-ℤ◌, ◌*ℤ◌, neg_ℤ, int_le, Ok, Err, if◌then◌else◌, refl, sym, ap, ◌∙◌, subst, arith}
-use Rattle.std.specs.List.{Contains}
+use Rattle.std.proofs.Common.{◌≡◌, ℕ, suc, ◌+◌, ◌-◌, ◌*◌, ◌^◌, ◌<◌, ◌≤◌, nat_le, IsTrue, Bool, true, false, List, ℤ, pos}
+use Rattle.std.proofs.Common.{negsuc, ◌+ℤ◌, ◌*ℤ◌, neg_ℤ, int_le, Ok, Err, if◌then◌else◌, refl, sym, ap, ◌∙◌, subst, arith}
 use Rattle.std.proofs.Math.IntN.{*ℤ_comm}
 use Rattle.std.proofs.lemmas.Bool.{lt-ltb}
 use Rattle.std.proofs.lemmas.Int.{ints}
 use Rattle.std.proofs.lemmas.Nat.{mul-le}
 use Rattle.dep_expr.proofs.Integers.{neg-mul}
-use Rattle.sd_base.specs.Blocks.{Block, block_end}
+use Rattle.sd_base.specs.Blocks.{Block}
 use Rattle.checked_tree.specs.declared.shapes.Scalar.{Scalar}
 use Rattle.checked_tree.specs.declared.shapes.Scalar.TheVariants.{Void, U8, I8, U16, I16, I32, U32, Pointer}
 use Rattle.checked_tree.specs.declared.shapes.Shape.{Shape}
 use Rattle.checked_tree.specs.declared.shapes.StructShape.{StructShape}
 use Rattle.checked_tree.specs.declared.stops.Stop.TheVariants.{Wild}
-use Rattle.checked_tree.specs.Numbers.{address, is_of, is_word, word_of}
-use Rattle.checked_tree.specs.Outcome.{Got, ◌>>=◌}
+use Rattle.checked_tree.specs.Numbers.{address, is_of, is_word}
+use Rattle.checked_tree.specs.Outcome.{◌>>=◌}
 use Rattle.deputy_types.specs.Fitting.{shape_size}
 use Rattle.deputy_types.specs.StructLaws.{IsMultiple}
 use Rattle.deputy_rules.specs.Places.{is_unsigned}

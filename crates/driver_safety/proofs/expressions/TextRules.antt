@@ -1,27 +1,23 @@
 -- Pointers to text: the next byte, where this one is not 0.
-use Rattle.std.proofs.Common.{◌≡◌, ◌≢◌, ℕ, zero, suc, ◌+◌, ◌-◌, ◌*◌, ◌^◌, ◌<◌, ◌≤◌, ◌==◌, nat_lt, IsTrue, Bool, true, false, not, ◌&&◌}
-use Rattle.std.proofs.Common.{◌||◌, List, [], ◌∷◌, ◌++◌, take, drop, get_or, ℤ, pos, ◌+ℤ◌, ◌*ℤ◌, Option, Some, None, Ok, slice_index_or}
-use Rattle.std.proofs.Common.{if◌then◌else◌, refl, sym, ap, ◌∙◌, subst, true≢false, arith}
+use Rattle.std.proofs.Common.{◌≡◌, ◌≢◌, ℕ, ◌+◌, ◌-◌, ◌*◌, ◌^◌, ◌<◌, ◌≤◌, ◌==◌, nat_lt, IsTrue, Bool, true, false, not, ◌&&◌}
+use Rattle.std.proofs.Common.{◌||◌, List, [], ◌∷◌, ◌++◌, take, drop, get_or, ℤ, pos, ◌+ℤ◌, ◌*ℤ◌, None, Ok, slice_index_or}
+use Rattle.std.proofs.Common.{refl, sym, ap, ◌∙◌, subst, true≢false, arith}
 use Rattle.std.specs.List.{list_all}
 use Rattle.std.proofs.Math.IntN.{*ℤ_comm}
-use Rattle.std.proofs.lemmas.Bool.{lt-ltb}
 use Rattle.std.proofs.lemmas.Bool.Decides.{Decides-eqb}
 use Rattle.std.proofs.lemmas.Int.{ints}
 use Rattle.std.proofs.lemmas.List.{get_or-drop}
 use Rattle.sd_base.specs.Blocks.{Block, block_end}
 use Rattle.sd_base.specs.declared.kinds.CheckKind.TheVariants as kind
 use Rattle.byte_memory.specs.Bytes.{bytes_at}
-use Rattle.checked_tree.specs.declared.expressions.CheckedExpr.{CheckedExpr}
 use Rattle.checked_tree.specs.declared.expressions.CheckedExpr.TheVariants as form
 use Rattle.checked_tree.specs.declared.expressions.PointerSum.TheVariants as pointer_sum
 use Rattle.checked_tree.specs.declared.shapes.Scalar.TheVariants.{U8}
-use Rattle.checked_tree.specs.declared.shapes.Shape.{Shape}
 use Rattle.checked_tree.specs.declared.sums.Sum.{Sum}
 use Rattle.checked_tree.specs.declared.units.CheckedFn.{CheckedFn}
-use Rattle.checked_tree.specs.Conditions.{State, is_end}
+use Rattle.checked_tree.specs.Conditions.{State}
 use Rattle.checked_tree.specs.Eval.{eval, tests, test, check_of}
-use Rattle.checked_tree.specs.Numbers.{address}
-use Rattle.checked_tree.specs.Outcome.{◌>>=◌, Safe}
+use Rattle.checked_tree.specs.Outcome.{◌>>=◌}
 use Rattle.checked_tree.proofs.Outcomes.{safe_bind}
 use Rattle.deputy_types.specs.declared.element.Element.{Element}
 use Rattle.deputy_types.specs.declared.element.Element.TheVariants as element
@@ -34,16 +30,15 @@ use Rattle.deputy_rules.specs.declared.derived.Whole.{Whole}
 use Rattle.deputy_rules.specs.declared.derived.Written.{Written}
 use Rattle.deputy_rules.specs.declared.derived.Written.TheVariants as written
 use Rattle.deputy_rules.specs.Context.{Context}
-use Rattle.deputy_rules.specs.Deriving.{Deriving, pure, ask}
 use Rattle.deputy_rules.specs.Places.{moved_sum}
-use Rattle.deputy_rules.specs.Pointers.{is_written, not_ended, text_checks, text_to, text_moved, text_stepped, text_sum, text_second}
+use Rattle.deputy_rules.specs.Pointers.{is_written, not_ended, text_checks, text_moved, text_stepped, text_sum, text_second}
 use Rattle.deputy_rules.specs.Pointers.{text_indexed, indexed_by}
 use Rattle.deputy_rules.specs.Sums.{side, side_by, constant_of}
-use Rattle.deputy_rules.specs.SumValues.{part_at, parts_at, HasValue}
+use Rattle.deputy_rules.specs.SumValues.{part_at, HasValue}
 use Rattle.deputy_rules.specs.Values.{size_of}
 use Rattle.driver_safety.specs.Derivations.{IsWhole, IsPointer, IsValue, IsDerived}
 use Rattle.driver_safety.specs.Goodness.{IsGood, IsBlock}
-use Rattle.driver_safety.specs.Passing.{sum_at, IsInside, place_of, clear_at, IsTested}
+use Rattle.driver_safety.specs.Passing.{IsInside, clear_at}
 use Rattle.driver_safety.specs.Reaching.{Reaches, into_text}
 use Rattle.driver_safety.specs.TypeFacts.{HasTypes, key_shape}
 use Rattle.driver_safety.proofs.checks.Evaluations.{safe_weaker, safe_same, Pass, pass_none, pass_one, pass_then, eval-Moved}

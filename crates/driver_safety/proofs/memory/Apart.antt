@@ -1,6 +1,6 @@
 -- Two members of structs within one place are the same, lie apart, or are arms of one union.
-use Rattle.std.proofs.Common.{◌≡◌, ◌≢◌, ◌⊎◌, inl, inr, ℕ, zero, suc, ◌+◌, ◌-◌, ◌*◌, ◌≤◌, ◌<◌, nat_lt, ◌==◌, Bool, true, false, List, ℤ}
-use Rattle.std.proofs.Common.{Option, Some, None, option_map, unwrap_or, slice_get, All, refl, sym, ap, ◌∙◌, subst, true≢false, arith}
+use Rattle.std.proofs.Common.{◌≡◌, ℕ, ◌+◌, ◌*◌, ◌≤◌, ◌<◌, nat_lt, ◌==◌, Bool, true, false, List}
+use Rattle.std.proofs.Common.{Option, Some, option_map, unwrap_or, slice_get, All, refl, sym, ap, ◌∙◌, subst, true≢false, arith}
 use Rattle.std.proofs.lemmas.Nat.{mul-le}
 use Rattle.std.proofs.lemmas.Bool.Decides.{Decides-eqb, nat_tests}
 use Rattle.std.proofs.lemmas.Option.{slice_get_within, get_or_from_slice_get}

@@ -1,21 +1,20 @@
 -- The memory where a block of zeros is granted: the new block fits, and all that fitted goes on fitting.
-use Rattle.std.proofs.Common.{◌≡◌, ◌⊎◌, inl, inr, ℕ, ◌+◌, ◌*◌, ◌≤◌, ◌<◌, IsTrue, Bool, true, false, List, ℤ, pos, All, length, Option, Some, ◌-◌}
-use Rattle.std.proofs.Common.{option_map, unwrap_or, slice_get, slice_index_or, Ok, refl, sym, ap, ◌∙◌, subst, arith}
+use Rattle.std.proofs.Common.{◌≡◌, ◌⊎◌, inl, inr, ℕ, ◌+◌, ◌*◌, ◌≤◌, ◌<◌, true, false, List, ℤ, pos, All, length, Option, ◌-◌}
+use Rattle.std.proofs.Common.{option_map, unwrap_or, slice_index_or, Ok, refl, sym, ap, ◌∙◌, subst, arith}
 use Rattle.std.proofs.lemmas.Nat.{mul-le}
 use Rattle.std.specs.List.{Contains}
 use Rattle.sd_base.specs.Blocks.{Block, block_end}
-use Rattle.byte_memory.specs.Tested.{Memory, is_inside}
+use Rattle.byte_memory.specs.Tested.{Memory}
 use Rattle.c_tree.specs.declared.items.Unit.{Unit as TextUnit}
 use Rattle.checked_tree.specs.declared.shapes.Bounds.TheVariants as bounds
 use Rattle.checked_tree.specs.declared.shapes.Shape.{Shape}
 use Rattle.checked_tree.specs.declared.shapes.Shape.TheVariants as shape
 use Rattle.checked_tree.specs.declared.shapes.StructShape.{StructShape}
-use Rattle.checked_tree.specs.declared.units.ImageBlock.{ImageBlock}
-use Rattle.deputy_types.specs.Fitting.{HoldsFitting, BytesFit, AreZero, elem_bytes, shape_size}
+use Rattle.deputy_types.specs.Fitting.{HoldsFitting, BytesFit, AreZero, shape_size}
 use Rattle.deputy_types.specs.Table.{Table}
 use Rattle.deputy_types.specs.UnitLayout.{layout}
 use Rattle.layout_laws.proofs.ZeroValues.{zeros_valid}
-use Rattle.driver_safety.specs.Goodness.{IsBlock, IsSameBlock, IsGranted, IsMemory}
+use Rattle.driver_safety.specs.Goodness.{IsBlock, IsSameBlock, IsMemory}
 use Rattle.driver_safety.specs.Goodness.{AreApart as LieApart}
 use Rattle.driver_safety.specs.GrantLaw.{IsGranting, EachGrantKeepsMemory}
 use Rattle.driver_safety.proofs.memory.Growing.{fits_more}
@@ -39,7 +38,7 @@ module _ (blocks more : List Block) (all : (c : Block) → Contains blocks c →
   }
 
 module _ (u : TextUnit) (t : Table) (h : layout u ≡ Ok t) (blocks more : List Block) (m after : Memory) (b : Block)
-    (good : IsMemory t blocks m) (is : IsGranting t blocks more m after b) where
+    (good : IsMemory t blocks m) (is : IsGranting t blocks more m after b) (zero : AreZero m.bytes b.base (b.layout.size * b.count)) where
   at_index : (size i count k : ℕ) → i < count → k < size → i * size + k < size * count
   at_index size i count k l s = by (mul-le (i + 1) size count size (omega (arith, l)) (omega arith))
     where
@@ -55,7 +54,7 @@ module _ (u : TextUnit) (t : Table) (h : layout u ≡ Ok t) (blocks more : List 
       = is.size ∙ ap (λ (o : Option Shape). unwrap_or (option_map (shape_size t.structs) o) 0) is.shape_is in
       let place : b.base + i * b.layout.size + k ≡ b.base + (i * b.layout.size + k) = omega arith in
       ap (λ (n : ℕ). slice_index_or m.bytes n 0) place
-      ∙ is.zero (i * b.layout.size + k) (at_index b.layout.size i b.count k l (subst (λ (n : ℕ). k < n) (sym size) s))
+      ∙ zero (i * b.layout.size + k) (at_index b.layout.size i b.count k l (subst (λ (n : ℕ). k < n) (sym size) s))
 
   new_block : IsBlock t more after b
   new_block = record {
@@ -112,7 +111,8 @@ module _ (u : TextUnit) (t : Table) (h : layout u ≡ Ok t) (blocks more : List 
       turned : (block_end d ≤ b.base) ⊎ (block_end b ≤ d.base) → (block_end b ≤ d.base) ⊎ (block_end d ≤ b.base)
       turned (inl l) = inr l
       turned (inr l) = inl l
-  two_blocks c d (inr e) (inr f) = inl (subst (λ (z : Block). IsSameBlock c z) (e ∙ sym f) (record { base = refl; layout = refl; count = refl }))
+  two_blocks c d (inr e) (inr f) =
+      inl (subst (λ (z : Block). IsSameBlock c z) (e ∙ sym f) (record { base = refl; layout = refl; count = refl }))
 
   granted : IsMemory t more after
   granted = record {
@@ -121,8 +121,15 @@ module _ (u : TextUnit) (t : Table) (h : layout u ≡ Ok t) (blocks more : List 
     apart = λ c d x y. two_blocks c d (is.only c x) (is.only d y);
     image = λ k i at.
         let g = good.image k i at in
-        record { block = g.block; granted = is.all g.block g.granted; base = g.base; count = g.count; elem = g.elem; nullterm = g.nullterm };
+        record {
+          block = g.block;
+          granted = is.all g.block g.granted;
+          base = g.base;
+          count = g.count;
+          elem = g.elem;
+          nullterm = g.nullterm;
+        };
   }
 
 pub each_grant_keeps : EachGrantKeepsMemory
-each_grant_keeps u t h blocks more m after b good is = granted u t h blocks more m after b good is
+each_grant_keeps u t h blocks more m after b good is zero = granted u t h blocks more m after b good is zero

@@ -1,6 +1,6 @@
 -- The memory behind a load is good: each block of the image lies where it was laid, and holds its first values.
-use Rattle.std.proofs.Common.{◌≡◌, ◌≢◌, ◌⊎◌, inl, inr, ℕ, zero, suc, ◌+◌, ◌-◌, ◌*◌, ◌≤◌, ◌<◌, nat_lt, Bool, true, false, List, [], ◌∷◌}
-use Rattle.std.proofs.Common.{◌++◌, length, All, Option, Some, None, option_map, unwrap_or, Ok, slice_get, slice_index_or, Contains, refl}
+use Rattle.std.proofs.Common.{◌≡◌, ◌⊎◌, inl, inr, ℕ, zero, suc, ◌+◌, ◌-◌, ◌*◌, ◌≤◌, ◌<◌, nat_lt, Bool, true, false, List, [], ◌∷◌}
+use Rattle.std.proofs.Common.{◌++◌, length, All, Option, Some, option_map, unwrap_or, Ok, slice_get, slice_index_or, Contains, refl}
 use Rattle.std.proofs.Common.{sym, ap, ◌∙◌, subst, arith}
 use Rattle.std.proofs.lemmas.Bool.{ltb-true, ltb-false}
 use Rattle.std.proofs.lemmas.List.Elements.{All-head, All-tail}
@@ -14,9 +14,7 @@ use Rattle.checked_tree.specs.declared.shapes.Scalar.TheVariants.{U8}
 use Rattle.checked_tree.specs.declared.shapes.Shape.{Shape}
 use Rattle.checked_tree.specs.declared.shapes.Shape.TheVariants as shape
 use Rattle.checked_tree.specs.declared.units.ImageBlock.{ImageBlock}
-use Rattle.deputy_types.specs.declared.element.Element.{Element}
 use Rattle.deputy_types.specs.Fitting.{BytesFit, elem_bytes, shape_size}
-use Rattle.deputy_types.specs.Options.{and_then}
 use Rattle.deputy_types.specs.Table.{Table, elem}
 use Rattle.deputy_types.specs.Types.{element_number, type_key}
 use Rattle.deputy_types.specs.UnitLayout.{layout, elem_shape}
@@ -26,7 +24,7 @@ use Rattle.layout_laws.proofs.ElementSizes.{numbered, elem_at}
 use Rattle.layout_laws.proofs.ImageFits.{image_fits}
 use Rattle.layout_laws.proofs.ImageLaws.{has_image}
 use Rattle.layout_laws.proofs.StructsDeclared.{layouts_of}
-use Rattle.driver_safety.specs.Goodness.{IsBlock, IsGranted, IsSameBlock, IsMemory}
+use Rattle.driver_safety.specs.Goodness.{IsBlock, IsSameBlock, IsMemory}
 use Rattle.driver_safety.specs.Goodness.{AreApart as LieApart}
 use Rattle.driver_safety.specs.LoadLaw.{IsLoadedBlock, IsLoaded, EachLoadIsGood}
 use Rattle.driver_safety.proofs.declarations.DeclaredShapes.{some_same}
@@ -46,7 +44,7 @@ apart_at (z ∷ xs) zero (suc j) x y a l g h =
     (λ (c : ImageBlock). z.base + z.size ≤ c.base) xs j y a.0 h)
 apart_at (z ∷ xs) (suc k) (suc j) x y a l g h = apart_at xs k j x y a.1 (omega (arith, l)) g h
 
-some_at : {X : Type 0} (xs : List X) (k : ℕ) → k < length xs → (x : X) × (slice_get xs k ≡ Some x)
+pub some_at : {X : Type 0} (xs : List X) (k : ℕ) → k < length xs → (x : X) × (slice_get xs k ≡ Some x)
 some_at [] k l = absurd (omega (arith, l))
 some_at (x ∷ xs) zero l = (x, refl)
 some_at (x ∷ xs) (suc k) l = some_at xs k (omega (arith, l))
@@ -59,14 +57,14 @@ layout_same : (a b : Layout) → a.elem ≡ b.elem → a.size ≡ b.size → a.n
 layout_same a b p q r = λ i. record { size = q i; elem = p i; nullterm = r i }
 
 module _ (u : TextUnit) (t : Table) (h : layout u ≡ Ok t) where
-  image : HasImage t (global_items u.items) (text_strings u)
+  pub image : HasImage t (global_items u.items) (text_strings u)
   image = has_image u t h
 
   -- a block of the image is that of a global or of a string
-  abbrev Kind : ImageBlock → Type 0
+  abbrev pub Kind : ImageBlock → Type 0
   Kind i = ((g : GlobalItem) × IsBlockOfGlobal t g i) ⊎ ((text : List ℕ) × IsBlockOfString t text i)
 
-  kind : (k : ℕ) (i : ImageBlock) → slice_get t.image k ≡ Some i → Kind i
+  pub kind : (k : ℕ) (i : ImageBlock) → slice_get t.image k ≡ Some i → Kind i
   kind k i at = by (nat_lt k (length (global_items u.items))) refl
     where
       by : (b : Bool) → nat_lt k (length (global_items u.items)) ≡ b → Kind i
@@ -85,11 +83,11 @@ module _ (u : TextUnit) (t : Table) (h : layout u ≡ Ok t) where
           inr (s.0, subst (IsBlockOfString t s.0) (some_same b.0 i (sym b.1 ∙ (ap (slice_get t.image) place ∙ at))) b.2)
 
   -- its element's shape, and its bytes
-  record HasKind (i : ImageBlock) : Type 0 where
-    shape : Shape
-    shape_is : slice_get t.elems i.elem ≡ Some shape
-    size : i.size ≡ i.count * elem_bytes t.elems t.structs i.elem
-    text : i.nullterm ≡ true → (elem_bytes t.elems t.structs i.elem ≡ 1) × (0 < i.count) × (slice_index_or i.bytes (i.size - 1) 0 ≡ 0)
+  pub record HasKind (i : ImageBlock) : Type 0 where
+    pub shape : Shape
+    pub shape_is : slice_get t.elems i.elem ≡ Some shape
+    pub size : i.size ≡ i.count * elem_bytes t.elems t.structs i.elem
+    pub text : i.nullterm ≡ true → (elem_bytes t.elems t.structs i.elem ≡ 1) × (0 < i.count) × (slice_index_or i.bytes (i.size - 1) 0 ≡ 0)
 
   global_kind : (g : GlobalItem) (i : ImageBlock) → IsBlockOfGlobal t g i → HasKind i
   unfolding elem
@@ -126,7 +124,7 @@ module _ (u : TextUnit) (t : Table) (h : layout u ≡ Ok t) where
       less : (n m : ℕ) → n ≡ m + 1 → n - 1 ≡ m
       less n m e = omega (arith, e)
 
-  has_kind : (i : ImageBlock) → Kind i → HasKind i
+  pub has_kind : (i : ImageBlock) → Kind i → HasKind i
   has_kind i (inl g) = global_kind g.0 i g.1
   has_kind i (inr s) = string_kind s.0 i s.1
 

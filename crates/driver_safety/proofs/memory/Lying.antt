@@ -1,7 +1,6 @@
 -- What lies in a block is inside: it is reached, and the values there fit.
-use Rattle.std.proofs.Common.{◌≡◌, ℕ, ◌+◌, ◌-◌, ◌*◌, ◌^◌, ◌<◌, ◌≤◌, IsTrue, Bool, true, false, ◌&&◌, List, ℤ, pos, Option, Some, None}
+use Rattle.std.proofs.Common.{◌≡◌, ℕ, ◌+◌, ◌*◌, ◌<◌, ◌≤◌, IsTrue, Bool, true, false, ◌&&◌, List, ℤ, pos, Option, Some, None}
 use Rattle.std.proofs.Common.{is_none, option_map, unwrap_or, slice_get, refl, sym, ap, ◌∙◌, subst, arith}
-use Rattle.std.specs.List.{Contains}
 use Rattle.sd_base.specs.Blocks.{Block, block_end}
 use Rattle.byte_memory.specs.Tested.{Memory, is_inside}
 use Rattle.checked_tree.specs.declared.shapes.Bounds.{Bounds}
@@ -12,7 +11,7 @@ use Rattle.checked_tree.specs.declared.shapes.StructShape.{StructShape}
 use Rattle.deputy_types.specs.Fitting.{shape_size, Part, whole, member, is_any, is_open, is_used, elem_bytes, place_value, member_value}
 use Rattle.deputy_types.specs.Fitting.{HoldsFitting, FitsBounds}
 use Rattle.deputy_types.specs.Table.{Table}
-use Rattle.layout_laws.proofs.ZeroFits.{LiesIn, lies_in}
+use Rattle.layout_laws.proofs.ZeroFits.{lies_in}
 use Rattle.driver_safety.specs.Goodness.{IsBlock}
 use Rattle.driver_safety.specs.Reaching.{IsOpenAt}
 use Rattle.driver_safety.specs.TypeFacts.{HasTypes}

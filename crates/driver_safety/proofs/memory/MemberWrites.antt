@@ -1,14 +1,13 @@
 -- A write to a member of a struct place keeps what its element holds: where the member fits then, each sibling whose annotation names it
 -- fits with its new value, and
 -- a tag keeps its value or its union is clear.
-use Rattle.std.proofs.Common.{◌≡◌, ◌≢◌, ◌⊎◌, inl, inr, ℕ, zero, suc, ◌+◌, ◌*◌, ◌≤◌, ◌<◌, ◌==◌, Bool, true, false, ◌||◌, List, [], ◌∷◌}
+use Rattle.std.proofs.Common.{◌≡◌, ◌≢◌, ◌⊎◌, inl, inr, ℕ, ◌+◌, ◌*◌, ◌≤◌, ◌<◌, ◌==◌, Bool, true, false, ◌||◌, List, [], ◌∷◌}
 use Rattle.std.proofs.Common.{length, ℤ, pos, ◌+ℤ◌, Option, Some, None, is_some, option_map, unwrap_or, slice_get, refl, sym, ap, ◌∙◌}
 use Rattle.std.proofs.Common.{subst, true≢false, arith}
 use Rattle.std.specs.Ordering.{int_eq}
 use Rattle.std.proofs.lemmas.Bool.Decides.{Decides-eqb, Decides-int_eq}
 use Rattle.sd_base.specs.Blocks.{Block}
-use Rattle.byte_memory.specs.Bytes.{little_endian, bytes_at, overwritten}
-use Rattle.checked_tree.specs.declared.shapes.Bounds.{Bounds}
+use Rattle.byte_memory.specs.Bytes.{overwritten}
 use Rattle.checked_tree.specs.declared.shapes.Bounds.TheVariants as bounds
 use Rattle.checked_tree.specs.declared.shapes.Edge.{Edge}
 use Rattle.checked_tree.specs.declared.shapes.Member.{Member}
@@ -19,9 +18,9 @@ use Rattle.checked_tree.specs.declared.shapes.UnionShape.{UnionShape}
 use Rattle.checked_tree.specs.Edges.{edge_value, edge_from, edge_base}
 use Rattle.layout_laws.proofs.ZeroFits.{LiesIn, zero_part}
 use Rattle.layout_laws.proofs.ZeroValues.{zero_place}
-use Rattle.deputy_types.specs.Fitting.{Fits, null, FitsBounds, HoldsFitting, BytesFit, AreZero, Part, is_any, is_used, place_value}
+use Rattle.deputy_types.specs.Fitting.{Fits, null, HoldsFitting, BytesFit, AreZero, Part, is_any, is_used, place_value}
 use Rattle.deputy_types.specs.Fitting.{member_value, shape_size}
-use Rattle.deputy_types.specs.Table.{Table, has_names, bounds_have_names, edge_has_names, has_terms, is_array}
+use Rattle.deputy_types.specs.Table.{Table, has_names, edge_has_names, has_terms, is_array}
 use Rattle.driver_safety.specs.StructPlaces.{IsLeaf, SameUnion}
 use Rattle.driver_safety.specs.TypeFacts.{HasTypes, IsMemberOf, IsArmIn, IsSibling, IsTag}
 use Rattle.driver_safety.proofs.memory.Apart.{Below, below, IsElement, address_of, bytes_of, Related, same, first, second, union}

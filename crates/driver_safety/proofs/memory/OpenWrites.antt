@@ -1,5 +1,5 @@
 -- A write to an open place keeps what its element holds: no annotation, no tag and no union speaks of it.
-use Rattle.std.proofs.Common.{◌≡◌, ◌≢◌, ◌⊎◌, inl, inr, ℕ, zero, suc, ◌+◌, ◌*◌, ◌≤◌, ◌<◌, ◌==◌, Bool, true, false, not, ◌&&◌, ◌||◌, List, []}
+use Rattle.std.proofs.Common.{◌≡◌, ◌≢◌, inl, inr, ℕ, zero, suc, ◌+◌, ◌*◌, ◌≤◌, ◌<◌, ◌==◌, Bool, true, false, not, ◌&&◌, ◌||◌, List, []}
 use Rattle.std.proofs.Common.{◌∷◌, length, ℤ, pos, Option, Some, None, is_none, option_map, unwrap_or, slice_get, refl, sym, ap, ◌∙◌, subst}
 use Rattle.std.proofs.Common.{true≢false, arith}
 use Rattle.std.specs.List.{list_any}
@@ -9,7 +9,6 @@ use Rattle.sd_base.specs.Blocks.{Block}
 use Rattle.byte_memory.specs.Bytes.{overwritten}
 use Rattle.checked_tree.specs.declared.shapes.Bounds.{Bounds}
 use Rattle.checked_tree.specs.declared.shapes.Bounds.TheVariants as bounds
-use Rattle.checked_tree.specs.declared.shapes.Edge.{Edge}
 use Rattle.checked_tree.specs.declared.shapes.Member.{Member}
 use Rattle.checked_tree.specs.declared.shapes.Shape.{Shape}
 use Rattle.checked_tree.specs.declared.shapes.Shape.TheVariants as shape
@@ -20,9 +19,9 @@ use Rattle.layout_laws.proofs.ZeroFits.{LiesIn}
 use Rattle.deputy_types.specs.Fitting.{Fits, FitsBounds, HoldsFitting, BytesFit, Part, whole, member, is_any, is_open, is_used, place_value}
 use Rattle.deputy_types.specs.Fitting.{member_value, shape_size}
 use Rattle.deputy_types.specs.Table.{Table, bounds_name, edge_names, has_names, shape_names}
-use Rattle.driver_safety.specs.StructPlaces.{IsLeaf, AreTidy}
+use Rattle.driver_safety.specs.StructPlaces.{IsLeaf}
 use Rattle.driver_safety.specs.TypeFacts.{HasTypes, IsMemberOf}
-use Rattle.driver_safety.proofs.assignments.SiblingRules.{Agrees, TermsAgree, BaseAgrees, EdgeAgrees, same_edge}
+use Rattle.driver_safety.proofs.assignments.SiblingRules.{TermsAgree, BaseAgrees, same_edge}
 use Rattle.driver_safety.proofs.memory.Apart.{Below, below, IsElement, address_of, bytes_of, Related, same, first, second, union}
 use Rattle.driver_safety.proofs.memory.Apart.{of_siblings, within, holder}
 use Rattle.driver_safety.proofs.memory.Lying.{any_part}

@@ -1,12 +1,11 @@
 -- A write that touches no byte of an element leaves what it holds.
-use Rattle.std.proofs.Common.{◌≡◌, ◌⊎◌, inl, inr, ℕ, zero, suc, ◌+◌, ◌*◌, ◌≤◌, ◌<◌, Bool, true, List, length, get_or, ℤ, pos, Option, Some}
+use Rattle.std.proofs.Common.{◌≡◌, ◌⊎◌, inl, inr, ℕ, ◌+◌, ◌*◌, ◌≤◌, ◌<◌, true, List, length, ℤ, pos, Option, Some}
 use Rattle.std.proofs.Common.{None, option_map, unwrap_or, slice_get, slice_index_or, refl, sym, ap, ◌∙◌, subst, arith}
 use Rattle.std.specs.Ordering.{int_eq}
 use Rattle.sd_base.specs.Blocks.{Block}
-use Rattle.byte_memory.specs.Bytes.{little_endian, bytes_at, overwritten}
+use Rattle.byte_memory.specs.Bytes.{little_endian, overwritten}
 use Rattle.byte_memory.proofs.Addresses.{other_loads}
 use Rattle.byte_memory.proofs.Words.{load_1, length-overwritten}
-use Rattle.checked_tree.specs.declared.shapes.Bounds.{Bounds}
 use Rattle.checked_tree.specs.declared.shapes.Member.{Member}
 use Rattle.checked_tree.specs.declared.shapes.Shape.{Shape}
 use Rattle.checked_tree.specs.declared.shapes.Shape.TheVariants as shape

@@ -1,7 +1,7 @@
 -- What is stored in a place of a type is read there again.
-use Rattle.std.proofs.Common.{◌≡◌, ◌≢◌, ℕ, ◌+◌, ◌-◌, ◌%◌, ◌^◌, ◌<◌, ◌≤◌, nat_lt, IsTrue, Bool, true, false, List, length, ℤ, pos, negsuc}
-use Rattle.std.proofs.Common.{◌-ℤ◌, if◌then◌else◌, refl, sym, ap, ◌∙◌, subst, arith}
-use Rattle.byte_memory.specs.Bytes.{little_endian, low_bytes, bytes_at, overwritten}
+use Rattle.std.proofs.Common.{◌≡◌, ℕ, ◌+◌, ◌-◌, ◌%◌, ◌^◌, ◌<◌, ◌≤◌, IsTrue, List, length, ℤ, pos, negsuc}
+use Rattle.std.proofs.Common.{ap, ◌∙◌, arith}
+use Rattle.byte_memory.specs.Bytes.{low_bytes, overwritten}
 use Rattle.byte_memory.proofs.Addresses.{load_after_store}
 use Rattle.checked_tree.specs.declared.shapes.Scalar.{Scalar}
 use Rattle.checked_tree.specs.declared.shapes.Scalar.TheVariants.{Void, U8, I8, U16, I16, I32, U32, Pointer}

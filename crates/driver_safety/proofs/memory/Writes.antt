@@ -1,14 +1,14 @@
 -- A write to one element of a granted block leaves a good memory, where that element fits then, and the end of a text stays.
-use Rattle.std.proofs.Common.{◌≡◌, ◌≢◌, ◌⊎◌, inl, inr, ℕ, zero, suc, ◌+◌, ◌-◌, ◌*◌, ◌%◌, ◌/◌, ◌^◌, ◌≤◌, ◌<◌, ◌==◌, nat_lt, IsTrue, Bool}
-use Rattle.std.proofs.Common.{true, false, List, [], ◌∷◌, ◌++◌, All, length, take, drop, ℤ, Option, Some, option_map, unwrap_or, slice_get}
-use Rattle.std.proofs.Common.{slice_index_or, refl, sym, ap, ◌∙◌, subst, true≢false, arith}
+use Rattle.std.proofs.Common.{◌≡◌, ◌⊎◌, inl, inr, ℕ, zero, suc, ◌+◌, ◌-◌, ◌*◌, ◌%◌, ◌/◌, ◌≤◌, ◌<◌, ◌==◌, nat_lt, Bool}
+use Rattle.std.proofs.Common.{true, false, List, ◌++◌, All, length, take, drop, Option, Some, option_map, unwrap_or, slice_get}
+use Rattle.std.proofs.Common.{slice_index_or, refl, sym, ap, ◌∙◌, subst, arith}
 use Rattle.std.specs.List.{Contains}
 use Rattle.std.proofs.lemmas.Bool.Decides.{Decides-eqb, nat_tests}
 use Rattle.std.proofs.lemmas.List.Elements.{All-nil, All-cons, All-append, All-take, All-drop}
 use Rattle.std.proofs.lemmas.Nat.{mul-le}
 use Rattle.sd_base.specs.Blocks.{Block, block_end}
 use Rattle.sd_base.specs.declared.history.Layout.{Layout}
-use Rattle.byte_memory.specs.Bytes.{low_bytes, overwritten, zeros}
+use Rattle.byte_memory.specs.Bytes.{low_bytes, overwritten}
 use Rattle.byte_memory.specs.Tested.{Memory}
 use Rattle.byte_memory.proofs.Words.{length-overwritten}
 use Rattle.checked_tree.specs.declared.shapes.Member.{Member}
@@ -16,7 +16,7 @@ use Rattle.checked_tree.specs.declared.shapes.Shape.{Shape}
 use Rattle.checked_tree.specs.declared.shapes.StructShape.{StructShape}
 use Rattle.deputy_types.specs.Fitting.{shape_size, BytesFit, elem_bytes}
 use Rattle.deputy_types.specs.Table.{Table}
-use Rattle.driver_safety.specs.Goodness.{IsBlock, IsGranted, IsMemory, IsSameBlock, AreApart}
+use Rattle.driver_safety.specs.Goodness.{IsBlock, IsMemory, IsSameBlock, AreApart}
 use Rattle.driver_safety.specs.TypeFacts.{HasTypes}
 use Rattle.driver_safety.proofs.memory.Outside.{other_byte, outside_keeps}
 

@@ -1,15 +1,14 @@
 -- A union whose bytes become 0: each arm that a tag may select holds 0 then, and all other members keep what they hold.
-use Rattle.std.proofs.Common.{◌≡◌, ◌≢◌, ◌⊎◌, inl, inr, ℕ, zero, suc, ◌+◌, ◌*◌, ◌≤◌, ◌<◌, ◌==◌, IsTrue, Bool, true, false, List, [], ◌∷◌}
+use Rattle.std.proofs.Common.{◌≡◌, ◌≢◌, inl, inr, ℕ, zero, suc, ◌+◌, ◌*◌, ◌≤◌, ◌<◌, ◌==◌, IsTrue, Bool, true, false, List}
 use Rattle.std.proofs.Common.{length, replicate, ℤ, pos, Option, Some, None, option_map, unwrap_or, slice_get, refl, sym, ap, ◌∙◌, subst}
 use Rattle.std.proofs.Common.{true≢false, arith}
 use Rattle.std.specs.List.{list_all}
 use Rattle.std.specs.Ordering.{int_eq}
 use Rattle.std.proofs.lemmas.Bool.Decides.{Decides-eqb}
 use Rattle.sd_base.specs.Blocks.{Block}
-use Rattle.byte_memory.specs.Bytes.{bytes_at, overwritten, zeros}
+use Rattle.byte_memory.specs.Bytes.{overwritten, zeros}
 use Rattle.byte_memory.proofs.Addresses.{bytes_at-overwritten}
 use Rattle.byte_memory.proofs.Words.{length-zeros}
-use Rattle.checked_tree.specs.declared.shapes.Bounds.{Bounds}
 use Rattle.checked_tree.specs.declared.shapes.Bounds.TheVariants as bounds
 use Rattle.checked_tree.specs.declared.shapes.Member.{Member}
 use Rattle.checked_tree.specs.declared.shapes.Shape.{Shape}
@@ -21,7 +20,7 @@ use Rattle.layout_laws.proofs.ZeroFits.{LiesIn, zero_part}
 use Rattle.layout_laws.proofs.ZeroValues.{zero_place}
 use Rattle.deputy_types.specs.Fitting.{Fits, HoldsFitting, BytesFit, AreZero, Part, is_any, is_used, place_value, member_value, shape_size}
 use Rattle.deputy_types.specs.Table.{Table}
-use Rattle.driver_safety.specs.StructPlaces.{IsLeaf, SameUnion}
+use Rattle.driver_safety.specs.StructPlaces.{IsLeaf}
 use Rattle.driver_safety.specs.TypeFacts.{HasTypes, IsFilled, IsMemberOf, IsArmIn, IsSibling, IsTag, ShapeNamesSiblings}
 use Rattle.driver_safety.proofs.assignments.MemberNames.{names_same}
 use Rattle.driver_safety.proofs.assignments.TagRules.{clear_zero}

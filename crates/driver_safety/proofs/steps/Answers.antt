@@ -1,19 +1,17 @@
 -- What the kernel answers and grants leaves good activities.
-use Rattle.std.proofs.Common.{◌≡◌, ℕ, zero, suc, false, List, [], ◌∷◌, ℤ, Some, Contains, slice_get, refl, sym, ap, ◌∙◌, subst, true≢false}
+use Rattle.std.proofs.Common.{◌≡◌, ℕ, suc, false, List, [], ◌∷◌, ℤ, Contains, sym, ◌∙◌, subst, true≢false}
 use Rattle.sd_base.specs.Blocks.{Block}
 use Rattle.byte_memory.specs.Tested.{Memory}
-use Rattle.c_tree.specs.declared.items.Function.{Function}
 use Rattle.c_tree.specs.declared.items.Unit.{Unit as TextUnit}
 use Rattle.c_tree.specs.Slots.{locals_of}
 use Rattle.checked_tree.specs.declared.kernel.Answer.{Answer}
 use Rattle.checked_tree.specs.declared.kernel.KernelCall.{KernelCall}
 use Rattle.checked_tree.specs.declared.statements.CheckedStmt.{CheckedStmt, out-CheckedStmt}
-use Rattle.checked_tree.specs.declared.units.CheckedFn.{CheckedFn}
 use Rattle.checked_tree.specs.declared.units.CheckedUnit.{CheckedUnit}
-use Rattle.checked_tree.specs.Step.{Activity, Frame, answered, answered_by, answer_set, target_of}
+use Rattle.checked_tree.specs.Step.{Activity, Frame, answered, answered_by}
 use Rattle.deputy_types.specs.Table.{Table}
 use Rattle.deputy_rules.specs.Heads.{slot_shapes}
-use Rattle.driver_safety.specs.Activities.{Terms, AllRun, End, is_return, IsFrame, Waits, AreBelow, IsActivity, Asking, IsAsking}
+use Rattle.driver_safety.specs.Activities.{Terms, AllRun, End, is_return, IsFrame, AreBelow, IsActivity, IsAsking}
 use Rattle.driver_safety.specs.Goodness.{IsMemory}
 use Rattle.driver_safety.specs.KernelLaw.{Answers}
 use Rattle.driver_safety.specs.StepLaw.{HasGoodSlots, terms_of, EachAnswerLeavesGood, EachGrantLeavesGood}
@@ -60,7 +58,7 @@ module _ (u : TextUnit) (t : Table) (c : CheckedUnit) (blocks more : List Block)
         record {
           function = (h.0).function;
           function_is = (h.0).function_is;
-          slots = asks.asked more top.locals m r (slots_more top.function top.locals (h.0).slots) memory answers;
+          slots = asks.asked.0 more top.locals m r (slots_more top.function top.locals (h.0).slots) memory answers;
           runs = λ i x at. subst (AllRun c terms top.function (h.0).function) asks.todo (h.0).runs (suc i) x at;
           ends = rest_ends asks.statement asks.rest asks.last (subst (End c terms) asks.todo (h.0).ends);
         },

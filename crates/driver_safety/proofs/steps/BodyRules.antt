@@ -1,5 +1,5 @@
 -- Every short statement that the rules derive runs, where each short simple statement and each short condition does.
-use Rattle.std.proofs.Common.{◌≡◌, ℕ, zero, suc, Bool, true, false, List, [], ◌∷◌, map, Option, Some, None, slice_get, Ok, All, refl, sym}
+use Rattle.std.proofs.Common.{◌≡◌, ℕ, zero, suc, Bool, true, false, List, [], ◌∷◌, map, Option, Some, None, slice_get, All, sym}
 use Rattle.std.proofs.Common.{ap, ◌∙◌, subst}
 use Rattle.std.proofs.lemmas.List.Elements.{All-head, All-tail}
 use Rattle.sd_base.specs.Blocks.{Block}
@@ -15,19 +15,19 @@ use Rattle.c_tree.specs.declared.statements.Simple.{Simple}
 use Rattle.c_tree.specs.declared.statements.Stmt.{Stmt, map-Stmt, roll-Stmt}
 use Rattle.c_tree.specs.declared.statements.Stmt.TheVariants as statement
 use Rattle.checked_tree.specs.declared.expressions.CheckedExpr.{CheckedExpr}
-use Rattle.checked_tree.specs.declared.statements.CheckedStmt.{CheckedStmt, out-CheckedStmt}
+use Rattle.checked_tree.specs.declared.statements.CheckedStmt.{CheckedStmt}
 use Rattle.checked_tree.specs.declared.statements.CheckedStmt.TheOpen as S
 use Rattle.checked_tree.specs.declared.statements.CheckedStmt.TheVariants as form
 use Rattle.checked_tree.specs.declared.units.CheckedFn.{CheckedFn}
 use Rattle.checked_tree.specs.declared.units.CheckedUnit.{CheckedUnit}
 use Rattle.checked_tree.specs.Act.{Into, turns, act}
 use Rattle.checked_tree.specs.Numbers.{holds}
-use Rattle.checked_tree.specs.Outcome.{Outcome, ◌>>=◌, Safe}
+use Rattle.checked_tree.specs.Outcome.{Safe}
 use Rattle.checked_tree.specs.Conditions.{State}
 use Rattle.checked_tree.specs.Eval.{eval}
 use Rattle.checked_tree.specs.Step.{part_of}
 use Rattle.checked_tree.proofs.Outcomes.{safe_bind}
-use Rattle.deputy_rules.specs.Checking.{Checking, afterwards, done, in_turn}
+use Rattle.deputy_rules.specs.Checking.{Checking, done, in_turn}
 use Rattle.deputy_rules.specs.Context.{Context}
 use Rattle.deputy_rules.specs.Numbering.{Numbered}
 use Rattle.deputy_rules.specs.Statements.{Home, simple, condition, single, if_level, while_level, body_level, statement_level}

@@ -1,16 +1,15 @@
 -- Good frames, wherever in its function a statement stands and whatever is granted beside.
-use Rattle.std.proofs.Common.{◌≡◌, IsTrue, ℕ, List, ℤ, Option, Some, None}
+use Rattle.std.proofs.Common.{ℕ, List, ℤ, Option, Some, None}
 use Rattle.std.specs.List.{Contains}
 use Rattle.sd_base.specs.Blocks.{Block}
 use Rattle.byte_memory.specs.Tested.{Memory}
 use Rattle.c_tree.specs.Slots.{Locals, hidden_slot}
-use Rattle.checked_tree.specs.declared.shapes.Bounds.{Bounds}
 use Rattle.checked_tree.specs.declared.shapes.Bounds.TheVariants as bounds
 use Rattle.checked_tree.specs.declared.shapes.Shape.{Shape}
 use Rattle.checked_tree.specs.declared.shapes.Shape.TheVariants as shape
 use Rattle.checked_tree.specs.Conditions.{State}
 use Rattle.deputy_types.specs.Table.{Table}
-use Rattle.deputy_rules.specs.Context.{Context, slot_shape}
+use Rattle.deputy_rules.specs.Context.{Context}
 use Rattle.driver_safety.specs.Goodness.{IsFrame, SlotHolds, FitsHidden}
 use Rattle.driver_safety.proofs.memory.Growing.{fits_more}
 

@@ -1,10 +1,9 @@
 -- Each simple statement and each condition of a function of an accepted unit runs: in a good state it fails a check, or leaves a good state
 -- and turns to where the unit's functions take over.
-use Rattle.std.proofs.Common.{◌≡◌, ◌≢◌, IsTrue, ℕ, Bool, true, false, List, [], ◌∷◌, ◌++◌, map, length, All, ℤ, pos, Option, Some, None}
-use Rattle.std.proofs.Common.{option_map, Ok, Err, Contains, slice_get, slice_index_or, refl, sym, ap, ◌∙◌, subst}
+use Rattle.std.proofs.Common.{◌≡◌, ℕ, Bool, false, List, [], map, length, All, ℤ, pos, Option, Some, None}
+use Rattle.std.proofs.Common.{Ok, Err, Contains, slice_get, slice_index_or, refl, sym, ap, ◌∙◌, subst}
 use Rattle.std.proofs.lemmas.Option.{slice_get-map}
 use Rattle.sd_base.specs.Blocks.{Block}
-use Rattle.byte_memory.specs.Tested.{Memory}
 use Rattle.c_tree.specs.declared.expressions.Expr.{Expr}
 use Rattle.c_tree.specs.declared.items.Function.{Function}
 use Rattle.c_tree.specs.declared.items.Item.TheVariants as item
@@ -18,10 +17,8 @@ use Rattle.c_tree.specs.ShortUnit.{IsShortUnit}
 use Rattle.c_tree.specs.Slots.{locals_of}
 use Rattle.c_tree.proofs.ShortParts.{HasShort}
 use Rattle.checked_tree.specs.declared.expressions.CheckedExpr.{CheckedExpr}
-use Rattle.checked_tree.specs.declared.kernel.Answer.{Answer}
 use Rattle.checked_tree.specs.declared.kernel.KernelCall.{KernelCall}
 use Rattle.checked_tree.specs.declared.kernel.KernelName.{KernelName}
-use Rattle.checked_tree.specs.declared.statements.Argument.{Argument}
 use Rattle.checked_tree.specs.declared.statements.CheckedStmt.{CheckedStmt, out-CheckedStmt}
 use Rattle.checked_tree.specs.declared.statements.CheckedStmt.TheOpen as S
 use Rattle.checked_tree.specs.declared.statements.CheckedStmt.TheVariants as statement
@@ -39,7 +36,6 @@ use Rattle.deputy_types.specs.Options.{and_then}
 use Rattle.deputy_types.specs.Table.{Table}
 use Rattle.deputy_types.specs.UnitLayout.{functions_of, layout}
 use Rattle.deputy_types.proofs.Inversions.{some_then, some_map}
-use Rattle.deputy_rules.specs.declared.asked.Asked.{Asked}
 use Rattle.deputy_rules.specs.declared.derived.Derived.{Derived}
 use Rattle.deputy_rules.specs.declared.derived.Value.{Value}
 use Rattle.deputy_rules.specs.declared.derived.Value.TheVariants as value
@@ -52,23 +48,23 @@ use Rattle.deputy_rules.specs.Checking.{in_turn}
 use Rattle.deputy_rules.specs.Context.{Context}
 use Rattle.deputy_rules.specs.Deriving.{Deriving, bind}
 use Rattle.deputy_rules.specs.Expressions.{derive}
-use Rattle.deputy_rules.specs.Functions.{context_of, text_of, no_checks, result_scalar, shapes_of}
+use Rattle.deputy_rules.specs.Functions.{context_of, no_checks, result_scalar, shapes_of}
 use Rattle.deputy_rules.specs.Heads.{parameter_shapes, result_of, signature_of, slot_shapes}
 use Rattle.deputy_rules.specs.NameValues.{local_at}
 use Rattle.deputy_rules.specs.Numbering.{Numbered}
-use Rattle.deputy_rules.specs.Statements.{Home, act, zero, zero_of, return_from, controlling, test_form, statement_context, at_line, simple}
+use Rattle.deputy_rules.specs.Statements.{Home, act, zero, zero_of, return_from, controlling, test_form, statement_context, simple}
 use Rattle.deputy_rules.specs.Statements.{condition, check_statement}
 use Rattle.deputy_rules.specs.Values.{value_of}
 use Rattle.light_checks.specs.Standing.{Stands}
 use Rattle.light_checks.specs.Within.{IsContext}
 use Rattle.driver_safety.specs.Activities.{Terms, Runs, runs, LeavesGood, IsTurn, is_return}
 use Rattle.driver_safety.specs.CallLaw.{GivesBack, HasWords}
-use Rattle.driver_safety.specs.Derivations.{IsDerived, IsValue, IsWhole, IsPointer}
+use Rattle.driver_safety.specs.Derivations.{IsDerived, IsValue}
 use Rattle.driver_safety.specs.Goodness.{IsFrame, IsMemory, IsGood}
 use Rattle.driver_safety.specs.Handing.{TakeEach, HasParameters}
 use Rattle.driver_safety.specs.KernelLaw.{Answers, IsLight}
-use Rattle.driver_safety.specs.Passing.{AreTested, StandIn}
-use Rattle.driver_safety.specs.StepLaw.{HasGoodSlots, HasGoodResult, TakesEachAnswer, terms_of}
+use Rattle.driver_safety.specs.Passing.{StandIn}
+use Rattle.driver_safety.specs.StepLaw.{signatures_of, HasGoodSlots, HasGoodResult, TakesEachAnswer, terms_of}
 use Rattle.driver_safety.specs.TypeFacts.{HasTypes, HasSlots}
 use Rattle.driver_safety.proofs.assignments.Assignments.{assign_to_sound}
 use Rattle.driver_safety.proofs.assignments.SlotAssign.{Leaves}
@@ -81,7 +77,7 @@ use Rattle.driver_safety.proofs.calls.Receiving.{some_same, each_result_is_taken
 use Rattle.driver_safety.proofs.calls.Returning.{return_from_sound}
 use Rattle.driver_safety.proofs.checks.Evaluations.{safe_same, safe_weaker}
 use Rattle.driver_safety.proofs.checks.LineRules.{SoundAt, weaker_at, line_at}
-use Rattle.driver_safety.proofs.checks.Sounding.{Sound, then_sound, both_sound, pure_sound, lift_sound, weaker}
+use Rattle.driver_safety.proofs.checks.Sounding.{then_sound, both_sound, pure_sound, lift_sound, weaker}
 use Rattle.driver_safety.proofs.declarations.FunctionHeads.{seen, has_parameters, result_declared}
 use Rattle.driver_safety.proofs.declarations.FunctionSlots.{slots_stand}
 use Rattle.driver_safety.proofs.declarations.ShortExpressions.{short_light, short_lights, short_have, short_words, statement_within}
@@ -227,9 +223,9 @@ module _ (u : TextUnit) (t : Table) (c : CheckedUnit) (types : HasTypes t) (shor
         turn = turn;
       }
 
-      asking : (elem : ℕ) (s : CheckedStmt) → IsAsking f ctx w st good types (hasSlots line n) elem s → Done w st s
+      asking : (elem : ℕ) (s : CheckedStmt) → IsAsking f ctx w st good types (hasSlots line n) (signatures_of u t) elem s → Done w st s
       asking elem s h = safe_weaker (acts [] f st (out-CheckedStmt s)) _ _ h.asks (λ a e p. (
-        same_state s a p.0 (subst (IsTurn c terms w k s) (sym p.2) (goes_on s a (Asks p.1) e p.2 (λ b. b), takes p.1 p.3)),
+        same_state s a p.0 (subst (IsTurn c terms w k s) (sym p.2) (goes_on s a (Asks p.1) e p.2 (λ b. b), (takes p.1 p.3, p.4))),
         subst NotInto (sym p.2) tt,
       ))
         where
@@ -359,12 +355,13 @@ module _ (u : TextUnit) (t : Table) (c : CheckedUnit) (types : HasTypes t) (shor
       allocated : (x : List ℕ) (y : TypeName) (e : Expr) → IsShortExpr e → Begins (kalloc ctx x y e) (Done w st)
       allocated x y e se =
           begins_weaker (kalloc ctx x y e) _ (Done w st)
-          (λ s p. asking p.0 s p.1) (kalloc_asks f ctx w st good types (hasSlots line n) x y e (short_words e se))
+          (λ s p. asking p.0 s p.1) (kalloc_asks f ctx w st good types (hasSlots line n) (signatures_of u t) x y e (short_words e se))
 
       freed : (e : Expr) → IsShortExpr e → Begins (kfree ctx e) (Done w st)
       freed e se =
           begins_weaker (kfree ctx e) _ (Done w st)
-          (λ s p. asking 0 s p) (kfree_asks f ctx w st good types (hasSlots line n) e (short_light ctx (within line n) e se))
+          (λ s p. asking 0 s p)
+          (kfree_asks f ctx w st good types (hasSlots line n) (signatures_of u t) e (short_light ctx (within line n) e se))
 
       nothing_done : Done w st (statement.Empty line)
       unfolding acts

@@ -1,12 +1,11 @@
 -- What a call from outside starts is good: its numbers are converted to the types of its parameters, which are integers.
-use Rattle.std.proofs.Common.{◌≡◌, IsTrue, ℕ, zero, suc, Bool, true, false, List, [], ◌∷◌, ◌++◌, map, ℤ, pos, Option, Some, None, slice_get}
+use Rattle.std.proofs.Common.{◌≡◌, ℕ, suc, Bool, true, false, List, [], ◌∷◌, ◌++◌, map, ℤ, pos, Option, Some, None, slice_get}
 use Rattle.std.proofs.Common.{slice_index_or, if◌then◌else◌, refl, sym, ap, ◌∙◌, subst, append-nil, append_assoc}
 use Rattle.sd_base.specs.Blocks.{Block}
 use Rattle.c_tree.specs.declared.items.Function.{Function}
 use Rattle.c_tree.specs.declared.items.Local.{Local}
 use Rattle.c_tree.specs.declared.items.Unit.{Unit as TextUnit}
 use Rattle.c_tree.specs.Slots.{is_automatic}
-use Rattle.checked_tree.specs.declared.shapes.Scalar.{Scalar}
 use Rattle.checked_tree.specs.declared.shapes.Shape.{Shape}
 use Rattle.checked_tree.specs.declared.shapes.Shape.TheVariants as shape
 use Rattle.checked_tree.specs.declared.units.CheckedFn.{CheckedFn}
@@ -17,15 +16,16 @@ use Rattle.deputy_types.specs.Table.{Table}
 use Rattle.deputy_types.specs.UnitLayout.{functions_of}
 use Rattle.deputy_rules.specs.Functions.{shapes_of}
 use Rattle.deputy_rules.specs.Heads.{parameter_shapes, with_hidden, local_shape, local_siblings, slot_shapes}
-use Rattle.driver_safety.specs.Activities.{IsActivity, IsSound}
+use Rattle.driver_safety.specs.Activities.{IsActivity}
 use Rattle.driver_safety.specs.Handing.{TakeEach}
 use Rattle.driver_safety.specs.StepLaw.{HasGoodArguments, terms_of, IsAccepted, AreIntegers, EachStartIsGood}
 use Rattle.driver_safety.specs.TypeFacts.{IsDeclared}
 use Rattle.driver_safety.proofs.calls.Receiving.{some_same}
 use Rattle.driver_safety.proofs.declarations.FunctionHeads.{has_parameters}
+use Rattle.driver_safety.proofs.declarations.FewItems.{few_items}
 use Rattle.driver_safety.proofs.declarations.TableFacts.{table_is}
 use Rattle.driver_safety.proofs.expressions.ReadRules.{no_void}
-use Rattle.driver_safety.proofs.steps.UnitSteps.{function_checked, function_of, sound}
+use Rattle.driver_safety.proofs.steps.UnitSteps.{function_checked, sound}
 
 -- hidden slots stand behind
 hidden_more : (ls : List Local) (shapes : List (Option Shape)) → (more : List (Option Shape)) × (with_hidden ls shapes ≡ shapes ++ more)
@@ -73,7 +73,7 @@ module _ (u : TextUnit) (t : Table) (c : CheckedUnit) (is : IsAccepted u t c) (k
     → AreIntegers (parameter_shapes t g.head.params) vs) (blocks : List Block) where
   frame_good : (f : CheckedFn) → slice_get c.functions k ≡ Some f → IsActivity c (terms_of u t) blocks (started_frame k vs f ∷ [])
   frame_good f at =
-      let types = table_is u t is.laid is.arms is.few in
+      let types = table_is u t is.laid is.arms (few_items u is.short) in
       let all = sound u t c types is.short is.laid is.derived in
       let body = all.bodies k f at in (
         record {
@@ -88,7 +88,7 @@ module _ (u : TextUnit) (t : Table) (c : CheckedUnit) (is : IsAccepted u t c) (k
     where
       takes : (f : CheckedFn) → slice_get c.functions k ≡ Some f → HasGoodArguments u t blocks k (converted_arguments vs f.slots)
       takes f at g found =
-          let types = table_is u t is.laid is.arms is.few in
+          let types = table_is u t is.laid is.arms (few_items u is.short) in
           let z = function_checked u t c types is.short is.laid is.derived k g found in
           let same : z.0 ≡ f = some_same z.0 f (sym z.1.made ∙ at) in
           let first = params_first t g in

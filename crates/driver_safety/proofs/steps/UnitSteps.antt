@@ -1,12 +1,11 @@
 -- The functions of an accepted unit keep what they owe: each statement of each body runs, each body ends with a return, and a fresh frame
 -- is good. So no step of a good activity over a good memory is wild, and what it leaves is good.
-use Rattle.std.proofs.Common.{◌≡◌, ◌⊎◌, inl, inr, ℕ, zero, suc, ◌+◌, ◌<◌, Bool, true, false, not, List, [], ◌∷◌, ◌++◌, map, length, ℤ, pos}
-use Rattle.std.proofs.Common.{Option, Some, None, Result, Ok, Err, All, Contains, slice_get, slice_index_or, if◌then◌else◌, refl, sym, ap}
+use Rattle.std.proofs.Common.{◌≡◌, ℕ, zero, suc, ◌+◌, ◌<◌, Bool, true, false, not, List, [], ◌∷◌, ◌++◌, map, length, ℤ}
+use Rattle.std.proofs.Common.{Option, Some, None, Result, Ok, Err, All, Contains, slice_get, if◌then◌else◌, refl, sym, ap}
 use Rattle.std.proofs.Common.{◌∙◌, subst, append-nil, append_assoc, arith}
 use Rattle.std.proofs.lemmas.List.{length-append}
-use Rattle.std.proofs.lemmas.List.Elements.{All-contains, All-head, All-tail}
+use Rattle.std.proofs.lemmas.List.Elements.{All-head, All-tail}
 use Rattle.sd_base.specs.Blocks.{Block}
-use Rattle.byte_memory.specs.Tested.{Memory}
 use Rattle.c_tree.specs.declared.expressions.Expr.{Expr}
 use Rattle.c_tree.specs.declared.expressions.Expr.TheVariants as expression
 use Rattle.c_tree.specs.declared.items.ResultBase.{ResultBase}
@@ -20,48 +19,43 @@ use Rattle.c_tree.specs.declared.items.Unit.{Unit as TextUnit}
 use Rattle.c_tree.specs.declared.limits.LimitKind.TheVariants.{Locals}
 use Rattle.c_tree.specs.declared.statements.Action.{Action}
 use Rattle.c_tree.specs.declared.statements.Action.TheVariants as action
-use Rattle.c_tree.specs.declared.statements.Simple.{Simple}
 use Rattle.c_tree.specs.declared.statements.Stmt.{Stmt}
-use Rattle.c_tree.specs.declared.statements.Stmt.TheVariants as stmt
 use Rattle.c_tree.specs.ItemGrammar.{added_return, returned as text_returned}
-use Rattle.c_tree.specs.ShortUnit.{IsShortUnit, EndsWithReturn}
+use Rattle.c_tree.specs.ShortUnit.{IsShortUnit}
 use Rattle.c_tree.specs.Slots.{locals_of}
 use Rattle.c_tree.proofs.ShortFunctions.{statements_short}
 use Rattle.c_tree.proofs.ShortParts.{IsShortStatement, function_short}
-use Rattle.checked_tree.specs.declared.kernel.Answer.{Answer}
 use Rattle.checked_tree.specs.declared.shapes.Shape.{Shape}
 use Rattle.checked_tree.specs.declared.statements.CheckedStmt.{CheckedStmt, out-CheckedStmt}
 use Rattle.checked_tree.specs.declared.statements.CheckedStmt.TheVariants as statement
 use Rattle.checked_tree.specs.declared.units.CheckedFn.{CheckedFn}
 use Rattle.checked_tree.specs.declared.units.CheckedUnit.{CheckedUnit}
-use Rattle.checked_tree.specs.Outcome.{Safe}
-use Rattle.checked_tree.specs.Step.{Activity, step, first_locals}
+use Rattle.checked_tree.specs.Step.{first_locals}
 use Rattle.deputy_types.specs.Table.{Table}
 use Rattle.deputy_types.specs.UnitLayout.{functions_of, layout}
 use Rattle.deputy_types.proofs.Inversions.{some_then}
 use Rattle.deputy_rules.specs.declared.asked.Asked.{Asked}
 use Rattle.deputy_rules.specs.declared.signature.Returned.{Returned}
 use Rattle.deputy_rules.specs.declared.signature.Returned.TheVariants as returned
-use Rattle.deputy_rules.specs.Checking.{Fault, NoRule, Limit, Checking, afterwards, with_outcome, done, in_turn}
+use Rattle.deputy_rules.specs.Checking.{Fault, NoRule, Limit, Checking, afterwards, with_outcome, in_turn}
 use Rattle.deputy_rules.specs.Calls.{pass, passed_argument, coerce_value}
 use Rattle.deputy_rules.specs.Context.{Context}
 use Rattle.deputy_rules.specs.Deriving.{bind, lift}
 use Rattle.deputy_rules.specs.Expressions.{derive}
-use Rattle.deputy_rules.specs.Functions.{context_of, text_of, no_checks, result_scalar, shapes_of, checked_function, finished}
+use Rattle.deputy_rules.specs.Functions.{context_of, text_of, no_checks, checked_function, finished}
 use Rattle.deputy_rules.specs.Functions.{check_statements, check_declared, check_result, check_function, wrong_prototype, behind_prototype}
 use Rattle.deputy_rules.specs.Functions.{behind_function, check_items, checked_with, checked}
-use Rattle.deputy_rules.specs.Heads.{SeenText, parameter_shapes, result_of, signature_of, slot_shapes, function_stands, is_over}
+use Rattle.deputy_rules.specs.Heads.{SeenText, parameter_shapes, result_of, slot_shapes, function_stands, is_over}
 use Rattle.deputy_rules.specs.Heads.{wrong_declaration}
 use Rattle.deputy_rules.specs.Numbering.{Numbered}
 use Rattle.deputy_rules.specs.Values.{of_slots}
-use Rattle.deputy_rules.specs.Statements.{Home, act, simple, statement_context, at_line, numbered_at, with_numbers, return_from}
+use Rattle.deputy_rules.specs.Statements.{Home, act, simple, statement_context, numbered_at, with_numbers, return_from}
 use Rattle.deputy_rules.specs.Statements.{return_value, check_statement}
 use Rattle.light_checks.specs.Standing.{Stands}
 use Rattle.light_checks.proofs.ShortUnits.{behind}
-use Rattle.driver_safety.specs.Goodness.{IsFrame as IsFrame', IsMemory}
-use Rattle.driver_safety.specs.Activities.{Terms, Runs, AllRun, End, is_return, IsSound, IsActivity, IsNext}
-use Rattle.driver_safety.specs.StepLaw.{HasGoodSlots, HasGoodArguments, terms_of, IsAccepted, EachStepIsSafe}
-use Rattle.driver_safety.specs.Handing.{TakeEach}
+use Rattle.driver_safety.specs.Goodness.{IsFrame as IsFrame'}
+use Rattle.driver_safety.specs.Activities.{Terms, Runs, AllRun, End, is_return, IsSound}
+use Rattle.driver_safety.specs.StepLaw.{HasGoodSlots, HasGoodArguments, terms_of, EachStepIsSafe}
 use Rattle.driver_safety.specs.Passing.{StandIn}
 use Rattle.driver_safety.specs.TypeFacts.{HasTypes}
 use Rattle.driver_safety.proofs.calls.Entering.{each_first_frame}
@@ -69,8 +63,8 @@ use Rattle.driver_safety.proofs.calls.Receiving.{some_same}
 use Rattle.driver_safety.proofs.checks.LineRules.{SoundAt, turn_at}
 use Rattle.driver_safety.proofs.declarations.FunctionHeads.{entered}
 use Rattle.driver_safety.proofs.steps.BodyRules.{at_simple, statement_runs}
-use Rattle.driver_safety.proofs.steps.Frames.{frame_moved}
 use Rattle.driver_safety.proofs.steps.SimpleRuns.{terms, home, IsChecked, simple_runs, condition_runs}
+use Rattle.driver_safety.proofs.declarations.FewItems.{few_items}
 use Rattle.driver_safety.proofs.declarations.TableFacts.{table_is}
 use Rattle.driver_safety.proofs.steps.Stepping.{step_safe}
 
@@ -119,7 +113,8 @@ module _ (unit : CheckedUnit) (terms' : Terms) where
       subst Back (first_is (statement.Return ctx.line (Some (passed_argument b.0.0)) d.0.0) x d.0.1 t d.2)
       (ap (λ z. is_return unit terms' z) (statement.outs-Return ctx.line (Some (passed_argument b.0.0)) d.0.0))
 
-  return_returns : (ctx : Context) (r : Returned) (e : Option Expr) (x : CheckedStmt) (t : List Asked) → return_from ctx r e [] ≡ Some (x, t)
+  return_returns : (ctx : Context) (r : Returned) (e : Option Expr) (x : CheckedStmt) (t : List Asked)
+      → return_from ctx r e [] ≡ Some (x, t)
       → Back x
   unfolding return_from
   return_returns ctx returned.Nothing None x t h =
@@ -419,5 +414,5 @@ module _ (u : TextUnit) (t : Table) (c : CheckedUnit) (types : HasTypes t) (shor
 
 pub each_step : EachStepIsSafe
 each_step u t c is blocks frames m activity memory =
-    let types = table_is u t is.laid is.arms is.few in
+    let types = table_is u t is.laid is.arms (few_items u is.short) in
     step_safe c (terms_of u t) (sound u t c types is.short is.laid is.derived) blocks frames m activity memory

@@ -1,9 +1,8 @@
 -- The arguments of a call from outside, one more converted.
-use Rattle.std.proofs.Common.{◌≡◌, ℕ, zero, suc, ◌+◌, ◌<◌, ◌≤◌, List, [], ◌∷◌, ◌++◌, length, drop, ℤ, Option, Some, None, get_or, slice_get, refl, sym, ap, subst, ◌∙◌, arith, append-nil, drop-cons}
-use Rattle.std.proofs.lemmas.List.{at_drop_more, at_drop_all}
+use Rattle.std.proofs.Common.{◌≡◌, ℕ, zero, suc, ◌+◌, ◌<◌, List, [], ◌∷◌, ◌++◌, length, drop, ℤ, Some, None, get_or, slice_get, refl, sym, ap, ◌∙◌, append-nil}
+use Rattle.std.proofs.lemmas.List.{at_drop_more}
 use Rattle.std.proofs.lemmas.Option.{slice_get_within, get_or_from_slice_get}
 use Rattle.checked_tree.specs.declared.shapes.Shape.{Shape}
-use Rattle.checked_tree.specs.declared.shapes.Shape.TheVariants as shape
 use Rattle.checked_tree.specs.Numbers.{converted}
 use Rattle.checked_tree.specs.Step.{parameter_type, converted_arguments}
 

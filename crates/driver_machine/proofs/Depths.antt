@@ -5,7 +5,8 @@ use Rattle.checked_tree.specs.declared.statements.CheckedStmt.TheOpen as S
 use Rattle.checked_tree.specs.declared.statements.CheckedStmt.TheFolds.{fold_out-CheckedStmt}
 use Rattle.checked_tree.specs.Step.{part_of}
 use Rattle.driver_machine.specs.declared.position.Place.{Place}
-use Rattle.driver_machine.specs.Paths.{part_at, list_at, IsPath, nest_level, nest, depth}
+use Rattle.driver_machine.specs.Paths.{part_at, list_at, IsPath}
+use Rattle.safe_code.specs.Runnable.{nest_level, nest, depth}
 
 -- a part with statements lies one deeper than its statement
 part_deeper : (y : S.CheckedStmt-F CheckedStmt) (holds : Bool) → 0 < length (part_of y holds) → depth (part_of y holds) + 1 ≤ nest_level (map-CheckedStmt CheckedStmt ℕ nest y)

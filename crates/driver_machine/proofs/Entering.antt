@@ -3,7 +3,8 @@ use Rattle.std.proofs.Common.{◌≡◌, inl, ℕ, ◌≤◌, ◌<◌, ◌==◌,
 use Rattle.std.proofs.lemmas.Bool.{eqb-true}
 use Rattle.checked_tree.specs.declared.statements.CheckedStmt.{CheckedStmt}
 use Rattle.driver_machine.specs.declared.position.Place.{Place}
-use Rattle.driver_machine.specs.Paths.{part_at, list_at, place_behind, todo_at, IsPath, IsReady, Stands, depth, picked_from}
+use Rattle.driver_machine.specs.Paths.{part_at, list_at, place_behind, todo_at, IsPath, IsReady, Stands, picked_from}
+use Rattle.safe_code.specs.Runnable.{depth}
 use Rattle.driver_machine.proofs.PathLaws.{list_at-push, path-push}
 use Rattle.driver_machine.proofs.Turns.{entered, passed}
 use Rattle.driver_machine.proofs.Depths.{has_room_for}

@@ -6,8 +6,9 @@ use Rattle.checked_tree.specs.declared.statements.CheckedStmt.{CheckedStmt}
 use Rattle.checked_tree.specs.declared.statements.CheckedStmt.TheVariants as T
 use Rattle.checked_tree.proofs.Equations.{at_parts, at_statements}
 use Rattle.driver_machine.specs.declared.position.Place.{Place}
-use Rattle.driver_machine.specs.Frames.{is_roomy, are_roomy}
-use Rattle.driver_machine.specs.Paths.{list_at, todo_at, picked_from, nest, depth}
+use Rattle.safe_code.specs.Runnable.{is_roomy, are_roomy}
+use Rattle.driver_machine.specs.Paths.{list_at, todo_at, picked_from}
+use Rattle.safe_code.specs.Runnable.{nest, depth}
 
 returned : ℕ → CheckedStmt
 returned slot = T.Return 9 (Some (record { scalar = I32; value = V.Local slot })) []

@@ -7,3 +7,11 @@ pub mod Entering
 pub mod Roomy
 pub mod Examples
 pub mod Converting
+pub mod Resuming
+pub mod Standings
+pub mod Activities
+pub mod TaskSteps
+pub mod RowSteps
+pub mod CallersWait
+pub mod TaskKept
+pub mod MachineLaws

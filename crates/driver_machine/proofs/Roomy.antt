@@ -7,7 +7,7 @@ use Rattle.checked_tree.specs.declared.statements.CheckedStmt.TheFolds.{fold_out
 use Rattle.checked_tree.specs.Step.{part_of}
 use Rattle.driver_machine.specs.declared.position.Place.{Place}
 use Rattle.driver_machine.specs.Acts.{has_room}
-use Rattle.driver_machine.specs.Frames.{all_true, roomy_level, is_roomy, are_roomy}
+use Rattle.safe_code.specs.Runnable.{all_true, roomy_level, is_roomy, are_roomy}
 use Rattle.driver_machine.specs.Paths.{part_at, list_at, todo_at, IsSettled}
 use Rattle.driver_machine.proofs.Turns.{first_stands}
 

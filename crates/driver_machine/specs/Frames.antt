@@ -1,8 +1,6 @@
 -- A frame's own part of a step: its first statement is done, and what it has still to do follows the turn.
-use Rattle.std.specs.Prelude.{◌≡◌, ◌≤◌, Bool, true, ◌&&◌, nat_le, IsTrue, List, [], ◌∷◌, map, drop, length, ℤ, Result, Ok, Err}
+use Rattle.std.specs.Prelude.{◌≡◌, List, [], ◌∷◌, drop, ℤ, Result, Ok, Err}
 use Rattle.checked_tree.specs.declared.statements.CheckedStmt.{CheckedStmt, out-CheckedStmt}
-use Rattle.checked_tree.specs.declared.statements.CheckedStmt.TheOpen as S
-use Rattle.checked_tree.specs.declared.statements.CheckedStmt.TheFolds.{fold-CheckedStmt}
 use Rattle.checked_tree.specs.declared.stops.Stop.{Stop}
 use Rattle.checked_tree.specs.declared.stops.Stop.TheVariants.{Wild}
 use Rattle.checked_tree.specs.declared.units.CheckedFn.{CheckedFn}
@@ -12,30 +10,7 @@ use Rattle.checked_tree.specs.Conditions.{State}
 use Rattle.checked_tree.specs.Outcome.{Outcome}
 use Rattle.driver_machine.specs.declared.turn.Turn.{Turn}
 use Rattle.driver_machine.specs.Acts.{turn_of, StaysBy}
-use Rattle.driver_machine.specs.Paths.{picked_from, depth}
-
--- ---- statements whose calls have room for their arguments
-abbrev pub all_true : List Bool → Bool
-all_true [] = true
-all_true (b ∷ bs) = b && all_true bs
-
-abbrev pub roomy_level : S.CheckedStmt-F Bool → Bool
-roomy_level (S.Call line target function values checks) = nat_le (length values) 128
-roomy_level (S.Kernel line target name values pointer function elem size) = nat_le (length values) 128
-roomy_level (S.If line test first second) = all_true first && all_true second
-roomy_level (S.While line test body) = all_true body
-roomy_level _ = true
-
-unfoldable pub is_roomy : CheckedStmt → Bool
-is_roomy st = fold-CheckedStmt Bool roomy_level st
-
-abbrev pub are_roomy : List CheckedStmt → Bool
-are_roomy list = all_true (map is_roomy list)
-
--- a body that the machine can run: statements stand at most 64 deep in one another, and each call has at most 128 arguments
-pub record IsRunnable (body : List CheckedStmt) : Type 0 where
-  pub nesting : depth body ≤ 64
-  pub room : IsTrue (are_roomy body)
+use Rattle.driver_machine.specs.Paths.{picked_from}
 
 -- ---- a step of one frame
 -- the first statement done

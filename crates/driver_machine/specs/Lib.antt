@@ -2,3 +2,9 @@ pub mod Changes
 pub mod Acts
 pub mod Paths
 pub mod Frames
+pub mod Results
+pub mod Standing
+pub mod Waiting
+pub mod Rows
+pub mod Tasks
+pub mod Machines

@@ -1,9 +1,8 @@
 -- Where a frame stands in its function's body: the parts that it entered, the outermost first, and a place in the list of the innermost. What it has still to do
 -- is the rest of that list, and then what stands behind each part, from the innermost out.
-use Rattle.std.specs.Prelude.{◌≡◌, ◌⊎◌, ℕ, ◌+◌, ◌≤◌, ◌<◌, max, Bool, false, List, [], ◌∷◌, ◌++◌, map, drop, length, Option, Some, None, slice_get, if◌then◌else◌}
+use Rattle.std.specs.Prelude.{◌≡◌, ◌⊎◌, ℕ, ◌+◌, ◌≤◌, ◌<◌, Bool, false, List, [], ◌∷◌, ◌++◌, drop, length, Option, Some, None, slice_get, if◌then◌else◌}
 use Rattle.checked_tree.specs.declared.statements.CheckedStmt.{CheckedStmt, out-CheckedStmt}
 use Rattle.checked_tree.specs.declared.statements.CheckedStmt.TheOpen as S
-use Rattle.checked_tree.specs.declared.statements.CheckedStmt.TheFolds.{fold-CheckedStmt}
 use Rattle.checked_tree.specs.Step.{part_of, picked}
 use Rattle.driver_machine.specs.declared.position.Place.{Place}
 
@@ -48,22 +47,6 @@ Stands list ps at = at < length (list_at list ps)
 -- a statement stands at the place, or all is done
 abbrev pub IsSettled : List CheckedStmt → List Place → ℕ → Type 0
 IsSettled list ps at = Stands list ps at ⊎ ((ps ≡ []) × (length list ≤ at))
-
--- ---- how deep statements stand in one another
-abbrev pub deepest : List ℕ → ℕ
-deepest [] = 0
-deepest (n ∷ ns) = max n (deepest ns)
-
-abbrev pub nest_level : S.CheckedStmt-F ℕ → ℕ
-nest_level (S.If line test first second) = 1 + max (deepest first) (deepest second)
-nest_level (S.While line test body) = 1 + deepest body
-nest_level _ = 0
-
-unfoldable pub nest : CheckedStmt → ℕ
-nest st = fold-CheckedStmt ℕ nest_level st
-
-abbrev pub depth : List CheckedStmt → ℕ
-depth list = deepest (map nest list)
 
 -- ---- where a frame stands
 -- a frame that stands so has each part of its path entered, and stands at a statement or is done

@@ -23,7 +23,7 @@ use sd_base::Fat;
 use sd_base::limits::LOCALS;
 
 /// Sets a slot; where there is none, nothing.
-fn set_local(locals: &mut [i64], slot: usize, value: i64)
+pub fn set_local(locals: &mut [i64], slot: usize, value: i64)
     requires value { IsTrue (is_value value) }
     requires words { All (λ z. IsTrue (is_value z)) locals.old }
     ensures value { locals.new ≡ slice_set locals.old slot value }

@@ -3,7 +3,8 @@ ghost use Rattle.std.specs.Prelude.{◌≡◌, ◌≤◌, ◌<◌, ◌+◌, drop
 ghost use Rattle.checked_tree.specs.Step as step;
 ghost use Rattle.checked_tree.specs.declared.statements.CheckedStmt.{out-CheckedStmt};
 ghost use Rattle.driver_machine.specs.Paths as spec;
-ghost use Rattle.driver_machine.specs.Paths.{IsPath, IsReady, IsSettled, Stands, depth, list_at, picked_from, todo_at};
+ghost use Rattle.safe_code.specs.Runnable.{depth};
+ghost use Rattle.driver_machine.specs.Paths.{IsPath, IsReady, IsSettled, Stands, list_at, picked_from, todo_at};
 
 use arrayvec::ArrayVec;
 use checked_tree::CheckedStmt;
@@ -150,6 +151,16 @@ impl Position {
             path: ArrayVec::new(),
             at: 0,
         }
+    }
+
+    /// Goes back to the first place of a body.
+    #[tactic(auto, using(crate::proofs::Turns::start_todo))]
+    pub fn restart(&mut self, body: &[CheckedStmt])
+        ensures todo { todo_at body.now self.new.path.items self.new.at ≡ body.now }
+        ensures ready { IsReady body.now self.new.path.items self.new.at }
+    {
+        self.path.clear();
+        self.at = 0;
     }
 
     /// The statement at this place, None where all is done.

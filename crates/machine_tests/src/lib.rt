@@ -12,3 +12,5 @@ mod kernel_calls;
 mod memory;
 #[cfg(test)]
 mod numbers;
+#[cfg(test)]
+mod runs;

@@ -1,4 +1,4 @@
-use Rattle.std.proofs.Common.{◌≡◌, ◌≤◌, ◌++◌, All, IsTrue, drop, length, ℤ}
+use Rattle.std.proofs.Common.{◌≡◌, ◌++◌, All, IsTrue, drop, ℤ}
 use Rattle.arrayvec.specs.ArrayVec.{array_vec_len}
 use Rattle.checked_tree.specs.Numbers.{is_value}
 use Rattle.checked_tree.specs.Step.{converted_arguments}

@@ -1,7 +1,7 @@
-use Rattle.driver_machine.proofs.Roomy.{first_roomy}
+use Rattle.driver_machine.proofs.Standings.{steps_in}
 use Rattle.driver_machine.proofs.frame.Frame.step.Goals as goal
 
-pub act-requires-clause-room : goal.act-requires-clause-room
-act-requires-clause-room c =
-    first_roomy c.args.f.now.body c.as_slice-body.result.now c.args.self.now.position.path.items c.args.self.now.position.at c.in-Some.statement.now
-    c.as_slice-body.ensures c.requires.ready.1 c.requires.runnable.room c.in-Some.ensures.first
+pub returns-in-Some-clause-steps : goal.returns-in-Some-clause-steps
+returns-in-Some-clause-steps c =
+    steps_in c.args.unit.now c.in-Some.f.now c.args.self.now c.step_in.new.self c.in-Some.ensures c.step_in.ensures.function
+    c.args.memory.now c.step_in.new.memory c.step_in.result c.step_in.new.arguments.items c.step_in.ensures.step

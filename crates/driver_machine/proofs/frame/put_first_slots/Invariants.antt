@@ -1,7 +1,7 @@
 use Rattle.std.proofs.Common.{◌≡◌, ◌+◌, ◌++◌, All, IsTrue, length, pos, replicate, take, ℤ}
 use Rattle.arrayvec.specs.ArrayVec.{array_vec_len}
 use Rattle.checked_tree.specs.Numbers.{is_value}
-use Rattle.driver_machine.proofs.frame.first_slots.Given as goal
+use Rattle.driver_machine.proofs.frame.put_first_slots.Given as goal
 
 abbrev pub invariant-loop-value : goal.invariant-loop-value
 invariant-loop-value l = record {

@@ -25,8 +25,14 @@ def answer(program, words, folder):
 
 
 def waits(out):
-    """Whether a run was refused only since its driver or its scenario is of a form that no run serves yet; no line of a scenario has the number 0."""
-    return re.fullmatch(r"refused \d \d+ later\n|scenario 0\n", out) is not None
+    """Whether a run was refused only since its scenario is of a form that no run serves yet; no line of a scenario has the number 0."""
+    return out == "scenario 0\n"
+
+
+def up_to_failure(lines):
+    """Of the lines of a run what is written today: those up to the first failure, and the last. What a failed driver had is not taken back yet."""
+    found = re.search(r"(?:.*\n)*?d[1-4] t[0-8] failed .*\n", lines)
+    return found[0] + lines[found.end() :].splitlines(True)[-1] if found else lines
 
 
 def scenario_of(driver):

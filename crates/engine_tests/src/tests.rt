@@ -34,14 +34,48 @@ run s d|load d1 1~finish 1~||0|Done|d1 load refused: no init~t1 idle~end 0~
 run s d|| /* nothing */ |0|Done|end 0~
 // sums wrap, and empty statements are steps
 run s d|load d1 1~finish 1~|int init(void) { ; printd(1 + 0x2 + 03l); ; return 2147483647 + 2; }|0|Done|d1 loaded~d1 t1 print 6~d1 t1 done -2147483647~end 4~
-// a run refuses a text by line and cause
+// a run refuses a text by line and cause, as a check does
 run s d||int init(void) {~  return 2147483648; }|0|Refused|refused 1 2 word~
 run s d||int init(void) { return 0; }~~}|0|Refused|refused 1 3 item~
-run s d||~int g;|0|Refused|refused 1 2 later~
-run s d||int init(void) { return 0u; }|0|Refused|refused 1 1 later~
-run s d||int init(void) { return (0); }|0|Refused|refused 1 1 later~
-run s d||int init() { return 0; }|0|Refused|refused 1 1 later~
-run s d||int init(void) { return 0; }~int init(void) { return 0; }|0|Refused|refused 1 2 later~
+run s d||struct s { int *count(n) p; };|0|Refused|refused 1 1 type~
+run s d||int *p;~int f(void) { p = (int *)5; return 0; }|0|Refused|refused 1 2 rule~
+// a function `init` with a parameter or another result is none
+run s d|load d1 1~finish 1|int init(int n) { return n; }|0|Done|d1 load refused: no init~t1 idle~end 0~
+run s d|load d1 1~finish 1|void init(void) { ; }|0|Done|d1 load refused: no init~t1 idle~end 0~
+// a pointer between two others, at the end of what they bound
+run s d|load d1 1~finish 1|int a[4];~int init(void) {~  int *lo;~  int *hi;~  int *bound(lo, hi) p;~  lo = a;~  hi = a + 4;~  p = hi;~  printd(1);~  printd(*p);~  return 0;~}|0|DriverFailed|d1 loaded~d1 t1 print 1~d1 t1 failed Bound 10~end 5~
+// a count that a buffer does not have, at a call
+run s d|load d1 1~finish 1|int f(int *count(n) p, int n) { return 1; }~int init(void) { int *q; int r; q = kalloc(int, 4); r = f(q, 4); printd(r); r = f(q, 0); printd(r); r = f(q, -1); return 0; }|0|DriverFailed|d1 loaded~d1 t1 print 1~d1 t1 print 1~d1 t1 failed Bound 2~end 8~
+run s d|load d1 1~finish 1|int f(int *count(n) p, int n) { return 1; }~int init(void) { int *q; int r; q = kalloc(int, 4); r = f(q, 4); printd(r); r = f(q, 0); printd(r); r = f(q, 5); return 0; }|0|DriverFailed|d1 loaded~d1 t1 print 1~d1 t1 print 1~d1 t1 failed Bound 2~end 8~
+// a string is read up to its end, and not moved past it
+run s d|load d1 1~finish 1|int init(void) { char *nullterm s; int c; s = \"ab\"; c = *s; printd(c); s = s + 1; s = s + 1; s = s + 1; return 0; }|0|DriverFailed|d1 loaded~d1 t1 print 97~d1 t1 failed Term 1~end 6~
+// a length may be lowered, and not raised under a live buffer
+run s d|load d1 1~finish 1|struct s { int len; int *count(len) buf; };~struct s g;~int init(void) {~  int *q;~  q = kalloc(int, 8);~  g.len = 8;~  g.buf = q;~  g.len = 4;~  printd(g.len);~  g.buf = 0;~  g.len = 8;~  g.buf = q;~  g.len = 9;~  return 0;~}|0|DriverFailed|d1 loaded~d1 t1 print 4~d1 t1 failed Change 13~end 9~
+// a string may be shortened, and its end not written over
+run s d|load d1 1~finish 1|int init(void) {~  char *nullterm s;~  s = \"ab\";~  *s = 'x';~  prints(s);~  s = s + 1;~  s = s + 1;~  *s = 0;~  printd(1);~  *s = 'y';~  return 0;~}|0|DriverFailed|d1 loaded~d1 t1 text \"xb\"~d1 t1 print 1~d1 t1 failed Term 10~end 8~
+// a tag changes over a union that is zero alone
+run s d|load d1 1~finish 1|struct v { int t; union { int n when(t == 1); int *safe p when(t == 2); } u; };~struct v g;~int init(void) {~  g.t = 1;~  g.u.n = 5;~  zero(g.u);~  g.t = 2;~  g.t = 1;~  g.u.n = 6;~  g.t = 2;~  return 0;~}|0|DriverFailed|d1 loaded~d1 t1 failed Change 10~end 7~
+run s d|load d1 1~finish 1|struct v { int t; union { int n when(t == 1); int m when(t == 2); } u; };~struct v g;~int init(void) { g.t = 1;~  g.u.m = 5; return 0; }|0|DriverFailed|d1 loaded~d1 t1 failed Tag 4~end 2~
+// nothing wraps in a bound
+run s d|load d1 1~finish 1|int a[4];~int init(void) { int *p; int n; p = a; n = 2147483647; p = p + n; return 0; }|0|DriverFailed|d1 loaded~d1 t1 failed Bound 2~end 3~
+// a block that was given back stays granted, and is not given back again
+run s d|load d1 1~finish 1|int init(void) { int *p; int *q; int x; p = kalloc(int, 1); *p = 6; kfree(p); x = *p; printd(x); q = kalloc(int, 1); kfree(p); return 0; }|0|DriverFailed|d1 loaded~d1 t1 print 6~d1 t1 failed Free 1~end 7~
+// a block as large as the arena, and one more byte
+run s d|load d1 1~finish 1|int init(void) { char *p; p = kalloc(char, 1048560); if (p) printd(1); p = kalloc(char, 1); if (!p) printd(2); return 0; }|0|Done|d1 loaded~d1 t1 print 1~d1 t1 print 2~d1 t1 done 0~end 7~
+// a null pointer is not followed, and nothing is divided by 0
+run s d|load d1 1~finish 1|int init(void) { int *p;~  return *p; }|0|DriverFailed|d1 loaded~d1 t1 failed Null 2~end 1~
+run s d|load d1 1~finish 1|int init(void) { int z; z = -2147483647 - 1; printd(z / -1); printd(z % -1); printd(1 << 33);~  return 1 / (z - z); }|0|DriverFailed|d1 loaded~d1 t1 print -2147483648~d1 t1 print 0~d1 t1 print 2~d1 t1 failed Div 2~end 5~
+// a call that never returns has no 65th frame, and a loop that never ends is stopped
+run s d|load d1 1~finish 1|int f(int n) {~  int r; r = f(n + 1); return r; }~int init(void) { int r; r = f(0); return r; }|0|DriverFailed|d1 loaded~d1 t1 failed Stack 2~end 64~
+run s d|load d1 1~finish 1|int init(void) { while (1) { ; } return 0; }|0|Done|d1 loaded~bound 100000~
+// kernel calls: ports, a lock that is left held, one that is taken twice, a mask, the clock, a parameter
+run s d|load d1 1~finish 1|int init(void) { int r; r = request_ports(16, 4); printd(r); r = request_ports(18, 1); printd(r); r = release_ports(16, 3); printd(r); r = port_in(20); return 0; }|0|DriverFailed|d1 loaded~d1 t1 print 0~d1 t1 print -16~d1 t1 print -22~d1 t1 failed Port 1~end 7~
+run s d|load d1 1~finish 1|int init(void) { lock(3); return 0; }|0|DriverFailed|d1 loaded~d1 t1 failed Held 1~end 2~
+run s d|load d1 1~finish 1|int init(void) { lock(3); lock(3); return 0; }|0|DriverFailed|d1 loaded~d1 t1 failed Relock 1~end 2~
+run s d|load d1 1~finish 1|int init(void) { mask(); return 0; }|0|DriverFailed|d1 loaded~d1 t1 failed Masked 1~end 2~
+run s d|load d1 1~finish 1|void h(int l) { return; }~int init(void) { int r; r = request_line(5, h); printd(r); r = request_line(5, h); printd(r); r = set_param(7, 9); r = get_param(7); printd(r); r = now(); printd(r); r = request_ports(8, 1); port_out(8, 65); return r; }|0|Done|d1 loaded~d1 t1 print 0~d1 t1 print -16~d1 t1 print 9~d1 t1 print 0~d1 t1 out 8 65~d1 t1 done 0~end 12~
+// behind a failure no event is taken
+run s d|load d1 1~finish 1~load d1 1~finish 1|int init(void) { int z; return 1 / z; }|0|DriverFailed|d1 loaded~d1 t1 failed Div 1~end 1~
 // a check refuses a text by line and cause
 check d||int f(void) { return 1 @ 2; }|0|Refused|refused 1 1 word~
 check d||~int a234567890123456789012345678901234567890123456789012345678901234;|0|Refused|refused 1 2 limit~

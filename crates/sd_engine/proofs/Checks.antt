@@ -1,10 +1,10 @@
 -- The lines of texts that are accepted.
 use Rattle.std.proofs.Common.{ℕ, ◌+◌, ◌≤◌, List, [], ◌∷◌, length, map, Option, refl, arith}
 use Rattle.sd_outside.specs.Sink.{more, IsCut}
-use Rattle.sd_engine.specs.declared.lines.Item.TheVariants as item
-use Rattle.sd_engine.specs.Lines.{line_of}
+use Rattle.run_report.specs.declared.item.Item.TheVariants as item
+use Rattle.run_report.specs.Lines.{line_of}
 use Rattle.sd_engine.specs.Serve.{accepted_lines}
-use Rattle.sd_engine.proofs.Runs.{IsCut-more}
+use Rattle.sd_engine.proofs.Finishing.{IsCut-more}
 
 -- a line that was cut is a front part of the lines
 pub cut-accepted : {X : Type 0} (f : X → List ℕ) (w now : Option (List ℕ)) (k : ℕ) (xs : List X) → 1 ≤ length xs → IsCut now (more w (line_of (item.Accepted k)))

@@ -1,12 +1,7 @@
--- Worked examples of the command's words and of the steps of a run, by computation.
-use Rattle.std.proofs.Common.{◌≡◌, List, [], ◌∷◌, Some, None, pos, refl}
+-- Worked examples of the command's words, by computation.
+use Rattle.std.proofs.Common.{◌≡◌, [], ◌∷◌, Some, None, refl}
 use Rattle.std.specs.Prelude.{codes}
-use Rattle.sd_engine.specs.declared.thin_program.Statement.{Statement}
-use Rattle.sd_engine.specs.declared.thin_program.Statement.TheVariants.{Print, Return, Empty}
-use Rattle.sd_engine.specs.declared.thin_run.Stage.TheVariants.{Over, Stopped}
 use Rattle.sd_engine.specs.Command.{command_of, run_words, check_words}
-use Rattle.sd_engine.specs.ThinProgram.{items_of, no_item}
-use Rattle.sd_engine.specs.ThinRun.{run_stage}
 
 -- commands, and words that are none
 pub a-run : command_of (codes "run" ∷ codes "s.txt" ∷ codes "a.c" ∷ []) ≡ Some (run_words (codes "s.txt") (codes "a.c"))
@@ -26,18 +21,3 @@ an-option = refl
 
 pub five-files : command_of (codes "check" ∷ codes "a" ∷ codes "b" ∷ codes "c" ∷ codes "d" ∷ codes "e" ∷ []) ≡ None
 five-files = refl
-
--- a function that prints, does nothing and ends
-abbrev pub body : List Statement
-body = Print (pos 7) ∷ Empty ∷ Return (pos 0) ∷ Print (pos 1) ∷ []
-
-pub steps-of-body : run_stage 0 body ≡ Over 3
-steps-of-body = refl
-
--- one step is left
-pub stops : run_stage 99999 body ≡ Stopped
-stops = refl
-
--- a text without items
-pub without-items : items_of [] ≡ no_item
-without-items = refl

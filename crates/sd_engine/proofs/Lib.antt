@@ -1,6 +1,13 @@
 pub mod Empty
 pub mod Fronts
-pub mod Runs
+pub mod MemoryKept
+pub mod Standing
+pub mod Stepping
+pub mod Placing
+pub mod Asking
+pub mod Beginning
+pub mod Finishing
+pub mod Events
 pub mod Scenarios
 pub mod TextsTold
 pub mod Checks

@@ -1,9 +1,9 @@
 pub mod Command
 pub mod Meaning
+pub mod InitRun
+pub mod Rigs
+pub mod ThinRun
+pub mod Marks
+pub mod ThinScenario
 pub mod Serve
 pub mod Statuses
-pub mod ThinProgram
-pub mod ThinRun
-pub mod ThinScenario
-pub mod ThinTexts
-pub mod Lines

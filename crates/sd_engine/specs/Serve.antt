@@ -1,40 +1,39 @@
 -- What the top call answers, and what it writes.
-use Rattle.std.specs.Prelude.{◌≡◌, ℕ, ◌+◌, ◌<◌, ◌≤◌, ◌⊎◌, List, [], ◌∷◌, ◌++◌, length, Option, IfSome}
+use Rattle.std.specs.Prelude.{◌≡◌, ℕ, ◌+◌, ◌<◌, ◌≤◌, ◌⊎◌, List, [], ◌∷◌, ◌++◌, length, Option, IfSome, Ok}
 use Rattle.sd_outside.specs.Sink.{more, IsCut}
 use Rattle.sd_outside.specs.declared.read.TextFault.{TextFault}
 use Rattle.sd_outside.specs.declared.read.TextFault.TheVariants as fault
 use Rattle.driver_front.specs.declared.causes.Cause.{Cause}
 use Rattle.driver_front.specs.Reasons.{IsAccepted, IsRefusedAt, spelling_of}
-use Rattle.sd_engine.specs.declared.lines.Item.TheVariants as item
+use Rattle.driver_front.specs.Verdict.{Verdict}
+use Rattle.checked_tree.specs.declared.units.CheckedUnit.{CheckedUnit}
+use Rattle.run_report.specs.declared.item.Item.TheVariants as item
+use Rattle.run_report.specs.Lines.{line_of}
+use Rattle.sd_engine.specs.declared.stage.Stage.{Stage}
+use Rattle.sd_engine.specs.declared.stage.Stage.TheVariants as stage
 use Rattle.sd_engine.specs.declared.status.Status.{Status}
 use Rattle.sd_engine.specs.declared.status.Status.TheVariants as status
-use Rattle.sd_engine.specs.declared.thin_program.Statement.{Statement}
-use Rattle.sd_engine.specs.declared.thin_run.Stage.{Stage}
-use Rattle.sd_engine.specs.declared.thin_run.Stage.TheVariants as stage
 use Rattle.sd_engine.specs.declared.thin_scenario.Event.{Event}
 use Rattle.sd_engine.specs.Command.{CommandWords, run_words, check_words}
-use Rattle.sd_engine.specs.ThinProgram.{no_item, init}
-use Rattle.sd_engine.specs.Lines.{line_of}
-use Rattle.sd_engine.specs.ThinRun.{lines_from}
+use Rattle.sd_engine.specs.ThinRun.{first_progress, lines_from, last_stage}
 use Rattle.sd_engine.specs.ThinScenario.{IsScenario}
-use Rattle.sd_engine.specs.ThinTexts.{IsServedAs, IsNotRun}
 
 -- the most bytes of a text
 abbrev pub most_bytes : ℕ
 most_bytes = 1048576
 
--- a text that a run serves from this stage on, with these statements of `init`
-pub data Starts (t : List ℕ) : Stage → List Statement → Type 0 where
-  without_init : IsServedAs t no_item → Starts t stage.NoInit []
-  with_init : {statements : List Statement} → IsServedAs t (init statements) → Starts t stage.Absent statements
+-- the status of a run that is written whole: whether a step of its driver failed, or had no meaning
+abbrev pub status_at : Stage → Status
+status_at stage.Failed = status.DriverFailed
+status_at _ = status.Done
 
--- what a run over these two texts writes, and its status where it is written whole
+-- What a run over these two texts writes, and its status where it is written whole: the driver's text is refused; or it is accepted, and the scenario is none;
+-- or it is accepted as a unit, and the lines are those of the scenario's events over it.
 pub data RunAnswers (scenario driver : List ℕ) : List ℕ → Status → Type 0 where
-  run_refused : {n : ℕ} {c : Cause} → IsNotRun driver n c → RunAnswers scenario driver (line_of (item.Refused 1 n (spelling_of c))) status.Refused
-  bad_scenario : {first : Stage} {list : List Statement} → Starts driver first list → ((events : List Event) → IsScenario scenario events → ⊥)
-      → RunAnswers scenario driver (line_of (item.Unread 0)) status.BadScenario
-  run_done : {first : Stage} {list : List Statement} {events : List Event} → Starts driver first list → IsScenario scenario events
-      → RunAnswers scenario driver (lines_from list first events) status.Done
+  run_refused : {n : ℕ} {c : Cause} → IsRefusedAt driver n c → RunAnswers scenario driver (line_of (item.Refused 1 n (spelling_of c))) status.Refused
+  bad_scenario : IsAccepted driver → ((events : List Event) → IsScenario scenario events → ⊥) → RunAnswers scenario driver (line_of (item.Unread 0)) status.BadScenario
+  run_done : {unit : CheckedUnit} {events : List Event} → Verdict driver (Ok unit) → IsScenario scenario events
+      → RunAnswers scenario driver (lines_from unit (first_progress unit) events) (status_at (last_stage unit (first_progress unit) events))
 
 -- each text is accepted
 abbrev pub AreAccepted : List (List ℕ) → Type 0
@@ -118,6 +117,7 @@ Writes status.Refused = Unit {0}
 Writes status.BadScenario = Unit {0}
 Writes status.WriteFault = Unit {0}
 Writes status.Done = Unit {0}
+Writes status.DriverFailed = Unit {0}
 Writes _ = ⊥
 
 -- the statuses of a call whose texts were read
@@ -134,5 +134,9 @@ status_of fault.Memory = status.OutOfMemory
 -- the statuses of a call whose words are a command
 abbrev pub IsPossible : Status → Type 0
 IsPossible status.Usage = ⊥
-IsPossible status.DriverFailed = ⊥
 IsPossible _ = Unit {0}
+
+-- what a run of an accepted driver leaves: all its lines, and the status of how the driver stands; or a front part of the lines, where a write failed
+pub data IsRun (unit : CheckedUnit) (events : List Event) (before now : Option (List ℕ)) : Status → Type 0 where
+  run_whole : now ≡ more before (lines_from unit (first_progress unit) events) → IsRun unit events before now (status_at (last_stage unit (first_progress unit) events))
+  run_cut : IsCut now (more before (lines_from unit (first_progress unit) events)) → IsRun unit events before now status.WriteFault

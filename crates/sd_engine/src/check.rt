@@ -3,13 +3,14 @@ ghost use Rattle.std.specs.Prelude.{◌≡◌, ◌≢◌, ◌<◌, ◌≤◌, �
 ghost use Rattle.sd_outside.specs.Counts.{HasCause, Rose};
 ghost use Rattle.sd_outside.specs.Sink.{IsCut, more};
 ghost use Rattle.sd_engine.specs.Serve.{AreAccepted, AreShort, CheckAnswers, FirstRefused, IsAfterTexts, IsWritten, Writes, accepted_lines, most_bytes};
-ghost use Rattle.sd_engine.specs.Lines.{line_of};
-ghost use Rattle.sd_engine.specs.declared.lines.Item.TheVariants as item;
+ghost use Rattle.run_report.specs.Lines.{line_of};
+ghost use Rattle.run_report.specs.declared.item.Item.TheVariants as item;
 ghost use Rattle.driver_front.specs.Reasons.{IsAccepted, IsRefusedAt, spelling_of};
 
-use crate::lines::{Item, print_item};
+use crate::printing::write_item;
 use crate::status::Status;
 use driver_front::{Cause, accept};
+use run_report::Item;
 use sd_base::Name;
 use sd_outside::{Sink, WriteFault};
 use std::alloc::{AllocError, Global};
@@ -101,7 +102,7 @@ fn write_accepted<K: Sink>(sink: &mut K, texts: &[Vec<u8>], driver: u8) -> Resul
     let [_first, rest @ ..] = texts else {
         return Ok(());
     };
-    print_item(sink, Item::Accepted { driver })?;
+    write_item(sink, Item::Accepted { driver })?;
     write_accepted(sink, rest, driver + 1)
 }
 
@@ -117,7 +118,7 @@ pub fn print_refusal<K: Sink>(
     ensures cause { HasCause (K.faults sink.old) (K.faults sink.new) result }
 {
     let item = refusal(driver, line, cause);
-    let written = print_item(sink, item);
+    let written = write_item(sink, item);
     written
 }
 

@@ -2,13 +2,17 @@
 //! sink, and the status comes back.
 #![tactic(auto)]
 
+mod blocks;
 mod check;
 mod command;
-mod drivers;
-mod lines;
+mod items;
+mod printing;
+mod rig;
+mod stage;
 mod status;
+mod stepped;
+mod tasks;
 mod texts;
-mod thin_program;
 mod thin_run;
 mod thin_scenario;
 mod top_call;

@@ -1,19 +1,26 @@
 //! The top call.
-ghost use Rattle.std.specs.Prelude.{◌≡◌, ◌≢◌, ◌≤◌, ◌↔◌, IfSome, None, length, map, true};
+ghost use Rattle.std.specs.Prelude.{◌≡◌, ◌≢◌, ◌≤◌, ◌↔◌, IfSome, None, Ok, length, map, true};
 ghost use Rattle.std.specs.String.{string_bytes};
 ghost use Rattle.sd_outside.specs.Counts.{Rose, RoseBeyond};
 ghost use Rattle.sd_engine.specs.Command.{all_differ, check_words, command_of, run_words};
-ghost use Rattle.sd_engine.specs.Serve.{IsAfterTexts, IsPossible, IsServed, IsTooLong, IsWritten, RunAnswers, Starts, Writes, WritesNothing, most_bytes, status_of};
+ghost use Rattle.driver_front.specs.Verdict.{Verdict};
+ghost use Rattle.driver_machine.specs.Machines.{owner_in};
+ghost use Rattle.sd_engine.specs.InitRun.{at_rest};
+ghost use Rattle.sd_engine.specs.Rigs.{IsStanding};
+ghost use Rattle.sd_engine.specs.Serve.{IsAfterTexts, IsPossible, IsRun, IsServed, IsTooLong, IsWritten, RunAnswers, Writes, WritesNothing, most_bytes, status_at, status_of};
 
 use crate::check::{check_texts, print_refusal};
 use crate::command::{Command, read_words};
-use crate::drivers::thin_text;
-use crate::lines::{Item, print_item};
+use crate::printing::write_item;
+use crate::rig::Rig;
+use crate::stage::Stage;
 use crate::status::Status;
 use crate::texts::read_texts;
-use crate::thin_program::{Statement, ThinText};
-use crate::thin_run::{Stage, thin_run};
-use crate::thin_scenario::thin_scenario;
+use crate::thin_run::run_driver;
+use crate::thin_scenario::{Event, thin_scenario};
+use driver_front::accept;
+use run_report::Item;
+use safe_code::SafeDriver;
 use sd_outside::{Shelf, Sink, TextFault, read_text};
 use std::alloc::Global;
 
@@ -47,7 +54,6 @@ pub fn serve<S: Shelf, K: Sink>(
     // What is written.
     ensures nothing { WritesNothing result → K.written sink.new ≡ K.written sink.old }
     ensures output { Writes result → IfSome (command_of (map string_bytes words.now)) (IsServed (S.left shelf.old) (K.written sink.old) (K.written sink.new) result) }
-    ensures possible { result ≢ Status.DriverFailed }
 {
     let Some(command) = read_words(words) else {
         return Status::Usage;
@@ -117,62 +123,78 @@ fn serve_check<S: Shelf, K: Sink>(
 }
 
 /// Serves a run whose texts are read.
-fn serve_texts<K: Sink>(alloc: Global, scenario: &[u8], driver: &[u8], sink: &mut K) -> Status
-    requires { length driver.now ≤ most_bytes }
+fn serve_texts<K: Sink>(alloc: Global, scenario: &[u8], text: &[u8], sink: &mut K) -> Status
+    requires { length text.now ≤ most_bytes }
     ensures possible { IsAfterTexts result }
     ensures write_fault { result ≡ Status.WriteFault → Rose (K.faults sink.old) (K.faults sink.new) }
     ensures writes { result ≢ Status.WriteFault → K.faults sink.new ≡ K.faults sink.old }
     ensures nothing { result ≡ Status.OutOfMemory → K.written sink.new ≡ K.written sink.old }
-    ensures output { Writes result → IsWritten (RunAnswers scenario.now driver.now) (K.written sink.old) (K.written sink.new) result }
+    ensures output { Writes result → IsWritten (RunAnswers scenario.now text.now) (K.written sink.old) (K.written sink.new) result }
 {
-    let Ok(text) = thin_text(alloc, driver) else {
-        return Status::OutOfMemory;
-    };
-    match text {
-        ThinText::Refused(line, cause) => match print_refusal(sink, 1, line, cause) {
-            Ok(()) => Status::Refused,
-            Err(_) => Status::WriteFault,
+    match accept(alloc, 1, text) {
+        Ok(driver) => serve_driver(alloc, scenario, text, &driver, sink),
+        Err(refusal) => match refusal.reason() {
+            Some(reason) => match print_refusal(sink, 1, reason.line, reason.cause) {
+                Ok(()) => Status::Refused,
+                Err(_) => Status::WriteFault,
+            },
+            None => Status::OutOfMemory,
         },
-        ThinText::NoItem => run_program(alloc, scenario, driver, Stage::NoInit, &[], sink),
-        ThinText::Init(statements) => run_program(
-            alloc,
-            scenario,
-            driver,
-            Stage::Absent,
-            statements.as_slice(),
-            sink,
-        ),
     }
 }
 
 /// Serves a run whose driver is accepted.
-fn run_program<K: Sink>(
+fn serve_driver<K: Sink>(
     alloc: Global,
     scenario: &[u8],
-    _driver: &[u8],
-    first: Stage,
-    statements: &[Statement],
+    _text: &[u8],
+    driver: &SafeDriver,
     sink: &mut K,
 ) -> Status
-    requires { Starts _driver.now first statements.now }
+    requires { Verdict _text.now (Ok driver.now.unit) }
     ensures possible { IsAfterTexts result }
     ensures write_fault { result ≡ Status.WriteFault → Rose (K.faults sink.old) (K.faults sink.new) }
     ensures writes { result ≢ Status.WriteFault → K.faults sink.new ≡ K.faults sink.old }
     ensures nothing { result ≡ Status.OutOfMemory → K.written sink.new ≡ K.written sink.old }
-    ensures output { Writes result → IsWritten (RunAnswers scenario.now _driver.now) (K.written sink.old) (K.written sink.new) result }
+    ensures output { Writes result → IsWritten (RunAnswers scenario.now _text.now) (K.written sink.old) (K.written sink.new) result }
 {
     let Ok(read) = thin_scenario(alloc, scenario) else {
         return Status::OutOfMemory;
     };
     let Some(events) = read else {
-        return match print_item(sink, Item::Unread { line: 0 }) {
+        return match write_item(sink, Item::Unread { line: 0 }) {
             Ok(()) => Status::BadScenario,
             Err(_) => Status::WriteFault,
         };
     };
-    match thin_run(sink, first, statements, events.as_slice()) {
-        Ok(()) => Status::Done,
+    let Ok(rig) = Rig::new(alloc, driver) else {
+        return Status::OutOfMemory;
+    };
+    run_events(rig, driver, events.as_slice(), sink)
+}
+
+/// Runs a driver under the events of a scenario.
+fn run_events<K: Sink>(rig: Rig, driver: &SafeDriver, events: &[Event], sink: &mut K) -> Status
+    requires stands { IsStanding driver.now.unit rig at_rest }
+    requires idle { owner_in rig.machine 1 ≡ None }
+    ensures write_fault { result ≡ Status.WriteFault → Rose (K.faults sink.old) (K.faults sink.new) }
+    ensures writes { result ≢ Status.WriteFault → K.faults sink.new ≡ K.faults sink.old }
+    ensures runs { IsRun driver.now.unit events.now (K.written sink.old) (K.written sink.new) result }
+{
+    let mut rig = rig;
+    match run_driver(&mut rig, driver, events, sink) {
+        Ok(stage) => status_after(stage),
         Err(_) => Status::WriteFault,
+    }
+}
+
+/// The status of a run that is written whole, by how its driver stands.
+fn status_after(stage: Stage) -> Status
+    ensures { result ≡ status_at stage }
+{
+    match stage {
+        Stage::Failed => Status::DriverFailed,
+        Stage::NoInit | Stage::Absent | Stage::Live | Stage::Over | Stage::Stopped => Status::Done,
     }
 }
 

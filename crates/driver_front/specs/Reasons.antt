@@ -16,7 +16,6 @@ spelling_of cause.Item = codes "item"
 spelling_of cause.Type = codes "type"
 spelling_of cause.Rule = codes "rule"
 spelling_of cause.Limit = codes "limit"
-spelling_of cause.Later = codes "later"
 
 -- on this line, for this cause
 abbrev pub at : ℕ → Cause → Option Reason

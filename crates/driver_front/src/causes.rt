@@ -15,8 +15,6 @@ pub enum Cause {
     Rule,
     /// A limit is passed.
     Limit,
-    /// An item that a run does not serve yet. No refusal of a text by itself has this cause.
-    Later,
 }
 
 impl Cause {
@@ -31,7 +29,6 @@ impl Cause {
             Cause::Type => b"type",
             Cause::Rule => b"rule",
             Cause::Limit => b"limit",
-            Cause::Later => b"later",
         }
     }
 }

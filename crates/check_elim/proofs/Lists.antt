@@ -15,13 +15,14 @@ use Rattle.checked_tree.specs.Eval.{check_of}
 use Rattle.checked_tree.specs.Flow.{Event, Tests, Assigns, Finds}
 use Rattle.checked_tree.specs.Redundant.{check_inequality, event_inequality, assigns_any, slots_of, fact_over_atoms}
 use Rattle.check_elim.specs.declared.table.Table.{Table}
+use Rattle.check_elim.specs.declared.table.Table.TheVariants as table
 use Rattle.check_elim.specs.declared.table.Inequalities.{Inequalities}
 use Rattle.check_elim.specs.declared.table.Classes.{Classes}
 use Rattle.check_elim.specs.declared.table.CheckFact.{CheckFact}
 use Rattle.check_elim.specs.Bits.{has, bit_is}
 use Rattle.check_elim.specs.Ways.{Effect, Gives, Takes, Keeps, Way, Nowhere, Sure, Lost, after, reached}
 use Rattle.check_elim.specs.Facts.{implies, gives, effect, effect_of, is_lost}
-use Rattle.check_elim.specs.Sets.{Facts, way_of, ways, effect_in, gives_in, given, given_all, after_list, after_class, class_of, is_number, all_lost, guard_all, mask_at, speaks_of, asked_at, inequality_at, InequalityFacts, AreInequalities, Marking, mark_own, mark_one, own_fact}
+use Rattle.check_elim.specs.Sets.{Facts, way_of, ways, effect_in, gives_in, given, given_all, after_list, after_class, after_all, class_of, is_number, all_lost, guard_all, mask_at, speaks_of, asked_at, inequality_at, InequalityFacts, AreInequalities, Marking, mark_own, mark_one, own_fact}
 use Rattle.check_elim.proofs.Laws.{after_nowhere}
 
 -- ---- masks
@@ -88,6 +89,15 @@ class_given t id k r old new is each = λ i j. (ap (way_of r) (each j) ∙ (by r
 pub no_class : (t : Classes) (id : ℕ) (w : Facts) → class_of t id ≡ None → w ≡ after_class t (Tests id) w
 unfolding after_class
 no_class t id w is = λ i j. ap (λ o. after (given (is_number j o)) (w j)) (sym is) i
+
+-- a branch and an assignment meet no class
+pub found_by_classes : (f : CheckedFn) (t : Table) (c : Classes) (fact : Option LinearForm) (w : Facts) → t ≡ table.Classes c → w ≡ after_all f t (Finds fact) w
+unfolding after_all after_class
+found_by_classes f t c fact w is = rw is refl
+
+pub assigned_by_classes : (f : CheckedFn) (t : Table) (c : Classes) (slots : List ℕ) (w : Facts) → t ≡ table.Classes c → w ≡ after_all f t (Assigns slots) w
+unfolding after_all after_class
+assigned_by_classes f t c slots w is = rw is refl
 
 -- ---- what is given
 pub all_given : (list : List Ineq) (strong : Ineq) (old new : List ℕ) → ((j : ℕ) → has new j ≡ (if gives_in strong (slice_get list j) then false else has old j))

@@ -16,6 +16,7 @@ pub mod Clearing
 pub mod Lists
 pub mod Forms
 pub mod Looping
+pub mod Parts
 pub mod Still
 pub mod Exact
 pub mod Deciding

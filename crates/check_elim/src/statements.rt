@@ -1,5 +1,5 @@
 //! What statements make of the lost facts.
-ghost use Rattle.std.specs.Prelude.{◌≡◌, ◌+◌, IfOk, OnOk, [], true, length, option_copied};
+ghost use Rattle.std.specs.Prelude.{◌≡◌, ◌+◌, ◌<◌, IfOk, OnOk, [], true, Some, length, slice_get, option_copied};
 ghost use Rattle.checked_tree.specs.declared.statements.CheckedStmt.{out-CheckedStmt};
 ghost use Rattle.checked_tree.specs.Flow.{Assigns, target_slots};
 ghost use Rattle.check_elim.specs.Direct.{passing, passings, act_of, backs_of, backs, behind, noted, through, telling, arguments_act, operand_act, argument_act};
@@ -139,6 +139,23 @@ fn past(alloc: Global, f: &CheckedFn, table: &Table, statement: &CheckedStmt, ne
     Ok(next)
 }
 
+/// The round in a place.
+fn round_at(rounds: &[Lost], next: usize) -> &Lost
+    requires { next < length rounds.now }
+    ensures { slice_get rounds.now next ≡ Some result.now }
+{
+    &rounds[next]
+}
+
+/// The place behind one of a round.
+fn next_place(rounds: &[Lost], next: usize) -> usize
+    requires { next < length rounds.now }
+    ensures { result ≡ next + 1 }
+{
+    let _count = rounds.len();
+    next + 1
+}
+
 /// What is lost behind a statement, where the rounds of its loops stand from the next place on; the result is the place behind them. The only
 /// refusal is want of memory.
 #[cycle(statements)]
@@ -170,9 +187,9 @@ fn pass(alloc: Global, f: &CheckedFn, table: &Table, statement: &CheckedStmt, ro
             Ok(end)
         }
         CheckedStmt::While { line: _, test: e, body } => {
-            lost.enter(&rounds[next]);
+            lost.enter(round_at(rounds, next));
             let left = test(alloc, f, table, e.get(), lost, kept)?;
-            let end = pass_all(alloc, f, table, body.as_slice(), rounds, next + 1, lost, kept)?;
+            let end = pass_all(alloc, f, table, body.as_slice(), rounds, next_place(rounds, next), lost, kept)?;
             *lost = left;
             Ok(end)
         }
@@ -192,7 +209,8 @@ pub(crate) fn pass_all(alloc: Global, f: &CheckedFn, table: &Table, statements: 
 {
     let mut place = next;
     for statement in statements {
-        place = pass(alloc, f, table, statement, rounds, place, lost, kept)?;
+        let after = pass(alloc, f, table, statement, rounds, place, lost, kept)?;
+        place = after;
     }
     Ok(place)
 }

@@ -6,7 +6,7 @@ use Rattle.std.specs.List.{list_any, list_all, flat_map}
 use Rattle.std.proofs.lemmas.Bool.Decides.{eqb_tells, leb_tells}
 use Rattle.std.proofs.lemmas.List.{get_or-replicate, length-replicate, get_or_append_left, append-nil, take_more, take_all}
 use Rattle.std.proofs.lemmas.List.Concat.{flat_map-append}
-use Rattle.std.proofs.lemmas.Option.{slice_get_cases, slice_get_past, slice_get_within, get_or_from_slice_get}
+use Rattle.std.proofs.lemmas.Option.{slice_get_cases, slice_get_past, slice_get_within, slice_get_read, get_or_from_slice_get}
 use Rattle.dep_expr.specs.declared.inequality.Ineq.{Ineq}
 use Rattle.checked_tree.specs.declared.checks.Check.{Check}
 use Rattle.checked_tree.specs.declared.expressions.CheckedExpr.{CheckedExpr}
@@ -30,6 +30,7 @@ use Rattle.check_elim.specs.Redundancy.{same_check, is_same, equals, follows_equ
 use Rattle.check_elim.specs.Direct.{passing, passings, telling, noted, act_of, reading, asked_of}
 use Rattle.check_elim.specs.Sets.{Facts, Marking, way_of, does, given, is_number, meets_class, class_of, effect_in, own_in, own_at, own_fact, IsOwn, ops_of, all_lost, AreInequalities, AreClasses, IsTable, size_in}
 use Rattle.check_elim.specs.Following.{Follows, is_plain, IsOfClasses, IsOfInequalities, is_lost_in, flows_in, flows_of_all}
+use Rattle.check_elim.specs.Marks.{SayUnmet, SayUnequal}
 use Rattle.check_elim.proofs.Lists.{room, marks}
 use Rattle.check_elim.proofs.Exact.{marks_exact, statement_exact, test_exact}
 use Rattle.check_elim.proofs.FactLists.{any_append, pushed_at}
@@ -301,6 +302,24 @@ kept_is f id c unequal met at second third =
     twice : (b : Bool) → not (not b) ≡ b
     twice true = refl
     twice false = refl
+
+numbered_at : (f : CheckedFn) (place : ℕ) (x : Check) → place < length f.checks → x ≡ get_or f.checks place x → check_of f (place + 1) ≡ Some x
+numbered_at f place x inside is =
+    let back : (place + 1) - 1 ≡ place = omega arith in
+    check_at f (place + 1) (omega arith) ∙ (ap (slice_get f.checks) back ∙ slice_get_read f.checks (length f.checks) place x refl inside is)
+
+pub kept_here : (f : CheckedFn) (t : Table) (unmet unequal : List Bool) (place : ℕ) (x : Check) (u m o b : Bool) → place < length f.checks → SayUnmet f t unmet → SayUnequal f unequal
+    → x ≡ get_or f.checks place x → u ≡ get_or unequal place false → m ≡ get_or unmet place false → o ≡ is_some (own_fact t (place + 1))
+    → b ≡ not (is_constant x.cond || (not u || (o && not m))) → b ≡ not (redundant f (place + 1))
+unfolding SayUnmet SayUnequal
+kept_here f t unmet unequal place x u m o b inside third second read unequal_is unmet_is own_is is =
+    let at = numbered_at f place x inside read in
+    let back : (place + 1) - 1 ≡ place = omega arith in
+    let e = unequal_is ∙ sym (ap (λ n. get_or unequal n false) back) in
+    let d = unmet_is ∙ sym (ap (λ n. get_or unmet n false) back) in
+    is
+    ∙ kept_is f (place + 1) x u (o && not m) at (e ∙ second (place + 1) x (omega arith) at)
+      ((λ i. own_is i && not (d i)) ∙ third (place + 1) x (omega arith) at)
 
 pub kept_more : (f : CheckedFn) (xs : List Bool) (k : ℕ) (b : Bool) → length xs ≡ k → b ≡ not (redundant f (k + 1))
     → ((id : ℕ) → 1 ≤ id → id ≤ k → get_or xs (id - 1) true ≡ not (redundant f id)) → (id : ℕ) → 1 ≤ id → id ≤ k + 1 → get_or (xs ++ b ∷ []) (id - 1) true ≡ not (redundant f id)

@@ -13,3 +13,4 @@ pub mod Sides
 pub mod Light
 pub mod Tables
 pub mod Following
+pub mod Marks

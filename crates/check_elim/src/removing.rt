@@ -1,14 +1,12 @@
 //! `kept`: which checks of a function need code.
-ghost use Rattle.std.specs.Prelude.{◌≡◌, ◌↔◌, ℕ, ◌-◌, ◌≤◌, Some, IfOk, length, replicate, false, true, not, ◌&&◌, ◌||◌, slice_index_or};
-ghost use Rattle.checked_tree.specs.declared.checks.Check.{Check as Tested};
-ghost use Rattle.checked_tree.specs.Eval.{check_of};
+ghost use Rattle.std.specs.Prelude.{◌≡◌, ◌↔◌, ℕ, ◌+◌, ◌-◌, ◌<◌, ◌≤◌, IfOk, length, replicate, false, true, not, ◌&&◌, ◌||◌, slice_index_or};
 ghost use Rattle.checked_tree.specs.Redundant as spec;
-ghost use Rattle.checked_tree.specs.Redundant.{Redundant, cond_inequality};
-ghost use Rattle.check_elim.specs.Redundancy.{follows_equal, follows_inequality, redundant};
-ghost use Rattle.std.specs.Option.{is_some};
+ghost use Rattle.checked_tree.specs.Redundant.{Redundant};
+ghost use Rattle.check_elim.specs.Redundancy.{redundant};
+ghost use Rattle.check_elim.specs.Marks.{SayUnmet, SayUnequal};
 ghost use Rattle.check_elim.specs.Direct.{passings, backs};
 ghost use Rattle.check_elim.specs.Rounds.{Stand};
-ghost use Rattle.check_elim.specs.Sets.{own_fact, IsTable, size_in, ops_of};
+ghost use Rattle.check_elim.specs.Sets.{IsTable, size_in, ops_of};
 ghost use Rattle.check_elim.specs.Following.{IsOfInequalities};
 ghost use Rattle.check_elim.specs.Tables.{HasSmallChecks};
 
@@ -48,7 +46,7 @@ fn unmet(alloc: Global, f: &CheckedFn, table: &Table) -> Result<Vec<bool>, Alloc
     requires table { IsTable f.now table.now }
     requires inequalities { IsOfInequalities table.now }
     ensures length { IfOk result (λ v. length v.items ≡ length f.now.checks) }
-    ensures marks { IfOk result (λ v. (id : ℕ) (c : Tested) → 1 ≤ id → check_of f.now id ≡ Some c → (is_some (own_fact table.now id) && not (slice_index_or v.items (id - 1) false)) ≡ follows_inequality f.now id (cond_inequality c.cond)) }
+    ensures marks { IfOk result (λ v. SayUnmet f.now table.now v.items) }
 {
     let rounds = rounds_of(alloc, f, table)?;
     let mut lost = Lost::all(alloc, table.size())?;
@@ -63,7 +61,7 @@ fn unmet(alloc: Global, f: &CheckedFn, table: &Table) -> Result<Vec<bool>, Alloc
 /// want of memory.
 fn unequal(alloc: Global, f: &CheckedFn) -> Result<Vec<bool>, AllocError>
     ensures length { IfOk result (λ v. length v.items ≡ length f.now.checks) }
-    ensures marks { IfOk result (λ v. (id : ℕ) (c : Tested) → 1 ≤ id → check_of f.now id ≡ Some c → slice_index_or v.items (id - 1) false ≡ not (follows_equal f.now id c)) }
+    ensures marks { IfOk result (λ v. SayUnequal f.now v.items) }
 {
     let equal = classes(alloc, f)?;
     let table = Table::Classes(equal);
@@ -82,6 +80,41 @@ fn is_kept(check: &Check, unequal: bool, over_locals: bool, unmet: bool) -> bool
     !(is_constant(&check.cond) || (!unequal || (over_locals && !unmet)))
 }
 
+/// Whether the check in a place is kept, by its marks.
+fn is_needed(f: &CheckedFn, table: &Table, unmet: &[bool], unequal: &[bool], place: usize) -> bool
+    requires table { IsTable f.now table.now }
+    requires inside { place < length f.now.checks }
+    requires as_many { length unmet.now ≡ length f.now.checks }
+    requires as_many_again { length unequal.now ≡ length f.now.checks }
+    requires third { SayUnmet f.now table.now unmet.now }
+    requires second { SayUnequal f.now unequal.now }
+    ensures { result ≡ not (redundant f.now (place + 1)) }
+{
+    let checks = f.checks.as_slice();
+    let _count = checks.len();
+    let over_locals = own(f, table, place + 1).is_some();
+    is_kept(&checks[place], unequal[place], over_locals, unmet[place])
+}
+
+/// Which checks are kept, by their marks. The only refusal is want of memory.
+fn kept_by(alloc: Global, f: &CheckedFn, table: &Table, unmet: &[bool], unequal: &[bool]) -> Result<Vec<bool>, AllocError>
+    requires table { IsTable f.now table.now }
+    requires as_many { length unmet.now ≡ length f.now.checks }
+    requires as_many_again { length unequal.now ≡ length f.now.checks }
+    requires third { SayUnmet f.now table.now unmet.now }
+    requires second { SayUnequal f.now unequal.now }
+    ensures length { IfOk result (λ v. length v.items ≡ length f.now.checks) }
+    ensures value { IfOk result (λ v. (id : ℕ) → 1 ≤ id → id ≤ length f.now.checks → slice_index_or v.items (id - 1) true ≡ not (redundant f.now id)) }
+{
+    let checks = f.checks.as_slice();
+    let mut kept = Vec::with_capacity(alloc, checks.len())?;
+    for place in 0..checks.len() {
+        let needed = is_needed(f, table, unmet, unequal, place);
+        kept.push(needed)?;
+    }
+    Ok(kept)
+}
+
 /// Which checks of a function need code, by their places: all but those that are redundant. A check is redundant where it is true of constants
 /// alone, where on every way from the start of its statement an equal one stands before it, or where it is an inequality over locals that
 /// every walk from the function's entry to it has met. The only refusal is want of memory.
@@ -95,12 +128,5 @@ pub fn kept(alloc: Global, f: &CheckedFn) -> Result<Vec<bool>, AllocError>
     let table = Table::Inequalities(facts);
     let unmet = unmet(alloc, f, &table)?;
     let unequal = unequal(alloc, f)?;
-    let checks = f.checks.as_slice();
-    let mut kept = Vec::with_capacity(alloc, checks.len())?;
-    for place in 0..checks.len() {
-        let over_locals = own(f, &table, place + 1).is_some();
-        let needed = is_kept(&checks[place], unequal[place], over_locals, unmet[place]);
-        kept.push(needed)?;
-    }
-    Ok(kept)
+    kept_by(alloc, f, &table, unmet.as_slice(), unequal.as_slice())
 }

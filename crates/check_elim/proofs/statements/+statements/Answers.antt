@@ -1,5 +1,7 @@
-use Rattle.std.proofs.Common.{rules, ◌≡◌, ◌+◌, List, length, sym, ◌∙◌, subst}
+use Rattle.std.proofs.Common.{rules, arith, ◌≡◌, ◌+◌, List, length, sym, ◌∙◌, subst}
+use Rattle.std.proofs.lemmas.Grind.{common_steps}
 use Rattle.checked_tree.specs.declared.statements.CheckedStmt.{CheckedStmt}
+use Rattle.checked_tree.specs.declared.statements.CheckedStmt.TheFolds as folds
 use Rattle.check_elim.specs.Sets.{facts, size_in, marking}
 use Rattle.check_elim.specs.Rounds.{Stand}
 use Rattle.check_elim.proofs.Looping.{rounds_of}
@@ -8,13 +10,13 @@ use Rattle.check_elim.proofs.statements.+statements.Goals as goal
 
 pub pass-pass_all-requires : goal.pass-pass_all-requires
 pass-pass_all-requires t c =
-    (search rules, (c.requires.table, (search rules,
+    (first_of (search (rules, folds.the_lemmas), grind (folds.the_lemmas, arith, common_steps)), (c.requires.table, (search rules,
       subst (λ (l : List CheckedStmt). Stand (size_in c.args.table.now) (rounds_of c.args.f.now c.args.table.now l) c.args.rounds.now c.args.next) (sym c.as_slice.ensures)
       (if_stands_first c.args.f.now c.args.table.now c.args.statement.now c.in-If.line c.in-If.e c.in-If.holds c.in-If.fails (size_in c.args.table.now) c.args.next c.args.rounds.now c.in-If.is c.requires.rounds))))
 
 pub pass-pass_all-requires-in-If : goal.pass-pass_all-requires-in-If
 pass-pass_all-requires-in-If t c =
-    (search rules, (c.requires.table, (search rules,
+    (first_of (search (rules, folds.the_lemmas), grind (folds.the_lemmas, arith, common_steps)), (c.requires.table, (search rules,
       subst (λ (l : List CheckedStmt). Stand (size_in c.args.table.now) (rounds_of c.args.f.now c.args.table.now l) c.args.rounds.now c.in_ok-middle-in-If.middle) (sym c.as_slice-in-If.ensures)
       (if_stands_second c.args.f.now c.args.table.now c.args.statement.now c.in-If.line c.in-If.e c.in-If.holds c.in-If.fails (size_in c.args.table.now) c.args.next c.in_ok-middle-in-If.middle c.args.rounds.now c.in-If.is c.requires.rounds
         (subst (λ (l : List CheckedStmt). c.in_ok-middle-in-If.middle ≡ c.args.next + length (rounds_of c.args.f.now c.args.table.now l)) c.as_slice.ensures c.in_ok-middle-in-If.ensures.next)))))
@@ -31,7 +33,7 @@ pass-enter-requires t c =
 
 pub pass-pass_all-requires-in-While : goal.pass-pass_all-requires-in-While
 pass-pass_all-requires-in-While t c =
-    (search rules, (c.requires.table, (search rules,
+    (first_of (search (rules, folds.the_lemmas), grind (folds.the_lemmas, arith, common_steps)), (c.requires.table, (search rules,
       subst (λ (l : List CheckedStmt). Stand (size_in c.args.table.now) (rounds_of c.args.f.now c.args.table.now l) c.args.rounds.now c.next_place.result) (sym c.as_slice-in-While.ensures)
       (while_stands_rest c.args.f.now c.args.table.now c.args.statement.now c.in-While.line c.in-While.e c.in-While.body (size_in c.args.table.now) c.args.next c.next_place.result c.args.rounds.now c.in-While.is c.requires.rounds c.next_place.ensures))))
 
@@ -74,7 +76,7 @@ pass-returns-in_ok-end-in-While-clause-next t c =
 
 pub pass_all-pass-requires : goal.pass_all-pass-requires
 pass_all-pass-requires t c =
-    (search rules, (c.requires.table, (c.loop-statement.invariant.0 ∙ c.requires.size,
+    (first_of (search (rules, folds.the_lemmas), grind (folds.the_lemmas, arith, common_steps)), (c.requires.table, (c.loop-statement.invariant.0 ∙ c.requires.size,
       next_stands c.args.f.now c.args.table.now c.args.statements.now c.loop-statement.statement-index c.statement-item.result (size_in c.args.table.now) c.loop-statement.place c.args.rounds.now c.loop-statement-test.true c.statement-item.is c.loop-statement.invariant.3)))
 
 pub pass_all-loop-statement-preserved : goal.pass_all-loop-statement-preserved

@@ -1,6 +1,7 @@
 -- What the marks of both analyses say of a check.
 use Rattle.std.proofs.Common.{◌≡◌, ◌≢◌, ◌⊎◌, ℕ, zero, suc, ◌+◌, ◌-◌, ◌*◌, ◌<◌, ◌≤◌, ◌==◌, Bool, true, false, not, ◌&&◌, ◌||◌, nat_lt, nat_eq, if◌then◌else◌, List, [], ◌∷◌, ◌++◌, length, map, Option, Some, None, slice_get, get_or, take, inl, inr, refl, sym, ap, ◌∙◌, subst, arith}
-use Rattle.std.specs.Prelude.{replicate, ◌↔◌}
+use Rattle.std.specs.Prelude.{replicate, ◌↔◌, Result, Ok, Err, IfOk}
+use Rattle.std.specs.Global.{Vec}
 use Rattle.std.specs.Option.{is_some}
 use Rattle.std.specs.List.{list_any, list_all, flat_map}
 use Rattle.std.proofs.lemmas.Bool.Decides.{eqb_tells, leb_tells}
@@ -338,6 +339,11 @@ exact_is f id b is = (λ h. (decided f id).0 (twice (redundant f id) (sym is ∙
     twice : (r : Bool) → not r ≡ false → r ≡ true
     twice true h = refl
     twice false h = absurd cc
+
+pub exact_where : {E : Type 0} (f : CheckedFn) (r : Result (Vec Bool) E) → IfOk r (λ v. (id : ℕ) → 1 ≤ id → id ≤ length f.checks → get_or v.items (id - 1) true ≡ not (redundant f id))
+    → IfOk r (λ v. (id : ℕ) → 1 ≤ id → id ≤ length f.checks → (get_or v.items (id - 1) true ≡ false) ↔ Redundant f id)
+exact_where f (Ok v) h = λ id low high. exact_is f id (get_or v.items (id - 1) true) (h id low high)
+exact_where f (Err e) h = tt
 
 -- ---- as the code has it
 pub whole_follows : (f : CheckedFn) (x : Table) (st : CheckedStmt) (w : Facts) (old new : List Bool) → IsTable f x → IsOfClasses x → is_plain (out-CheckedStmt st) ≡ true → w ≡ all_lost (size_in x)

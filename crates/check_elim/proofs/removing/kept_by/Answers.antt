@@ -14,4 +14,4 @@ loop-place-preserved c =
      (kept_more c.args.f.now c.loop-place.kept.items c.loop-place.place c.is_needed-needed.result c.loop-place.invariant.0 c.is_needed-needed.ensures c.loop-place.invariant.1))
 
 pub returns-clause-value : goal.returns-clause-value
-returns-clause-value c = ?
+returns-clause-value c = λ id low high. c.loop-place.invariant.1 id low (omega (arith, high, c.loop-place-test.false, ap length c.as_slice-checks.ensures))

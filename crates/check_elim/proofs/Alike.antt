@@ -15,7 +15,7 @@ use Rattle.checked_tree.specs.declared.statements.CheckedStmt.{CheckedStmt, map-
 use Rattle.checked_tree.specs.declared.statements.CheckedStmt.TheOpen as S
 use Rattle.checked_tree.specs.declared.statements.CheckedStmt.TheFolds.{fold-roll-CheckedStmt, ind-CheckedStmt}
 use Rattle.checked_tree.specs.Flow.{Event, Tests, Assigns, Finds, Side, OfSlot, OfNumber, OfNull, OfOther, side_fact, compare_fact, target_slots}
-use Rattle.check_elim.specs.Direct.{Ops, Act, Acts, behind, noted, idle, and_then, tests, assigns, leaves, Reading, side_in, edges, value_of, holds_of, fails_of, asked_of, on_edge, leaf_reading, plain_reading, sum_act, logical_reading, read_level, reading, value_act, arguments_act, operand_act, argument_act, Passing, act_of, simple, through, telling, back, head, pass_level, passing, passings}
+use Rattle.check_elim.specs.Direct.{Ops, Act, Acts, behind, noted, idle, and_then, tests, assigns, leaves, Reading, side_in, edges, value_of, holds_of, fails_of, asked_of, on_edge, leaf_reading, plain_reading, sum_act, read_level, reading, value_act, arguments_act, operand_act, argument_act, Passing, act_of, through, telling, back, head, pass_level, passing, passings}
 
 pub record GoAlike {A M B N : Type 0} (o : Ops A M) (p : Ops B N) (R : A → B → Type 0) (Q : M → N → Type 0) : Type 0 where
   pub either : (a : A) (b : B) (c : A) (d : B) → R a b → R c d → R (o.either a c) (p.either b d)

@@ -10,8 +10,8 @@ use Rattle.checked_tree.specs.declared.expressions.PointerSum.{PointerSum}
 use Rattle.checked_tree.specs.declared.expressions.PointerSum.TheVariants.{PointerPlus, PlusPointer, PointerMinus}
 use Rattle.checked_tree.specs.declared.expressions.Unary.TheVariants as unary_op
 use Rattle.checked_tree.specs.Flow.{Event, Tests, Assigns, Finds, Passes, Flow, Leaves, Ends, Meets, Splits, Side, OfSlot, OfNumber, OfNull, OfOther, Seen, side_of, facts_of, as_value, as_test, checked, branch, leaf, seen, seen_level, side_fact, compare_fact, sum_flow}
-use Rattle.check_elim.specs.Ways.{Effect, Way, Nowhere, Sure, Lost, either, after, reached, exits, here, comes}
-use Rattle.check_elim.specs.Direct.{Ops, Act, Acts, behind, noted, idle, and_then, tests, Reading, Reads, side_in, edges, value_of, holds_of, fails_of, asked_of, leaf_reading, plain_reading, sum_act, logical_reading, read_level, reading}
+use Rattle.check_elim.specs.Ways.{Effect, Way, Nowhere, Sure, Lost, either, after, exits, here, comes}
+use Rattle.check_elim.specs.Direct.{Act, Acts, behind, noted, idle, and_then, tests, Reading, side_in, edges, value_of, holds_of, fails_of, asked_of, leaf_reading, plain_reading, sum_act, logical_reading, read_level, reading}
 use Rattle.check_elim.specs.One.{one_of}
 use Rattle.check_elim.proofs.Laws.{either_assoc, after_either}
 
@@ -159,7 +159,7 @@ module _ (does : Event → Effect) (id : ℕ) where
         ∙ (ap (λ x. either x (comes does id k (h w))) (c.notes k l (f w) (t w m))
         ∙ (turned (s (f w) (t w m)) (either (comes does id k (u (f w))) (comes does id l (g (f w)))) (comes does id k (h w))
         ∙ ap (either (s (f w) (t w m))) (sym (either_assoc (comes does id k (h w)) (comes does id k (u (f w))) (comes does id l (g (f w))))
-            ∙ ap (λ x. either x (comes does id l (g (f w)))) (sym (comes_either k (h w) (u (f w))))))));
+        ∙ ap (λ x. either x (comes does id l (g (f w)))) (sym (comes_either k (h w) (u (f w))))))));
   }
 
   -- an expression's reading is what its flow does

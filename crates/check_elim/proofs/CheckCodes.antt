@@ -1,29 +1,26 @@
 -- Codes of checks tell kind and condition, and the classes of a function's checks by their codes.
-use Rattle.std.proofs.Common.{◌≡◌, ◌⊎◌, inl, inr, ℕ, zero, suc, ◌+◌, ◌*◌, ◌/◌, ◌≤◌, ◌<◌, ◌==◌, Bool, true, false, not, List, [], ◌∷◌, ◌++◌, map, length, get_or, Contains, ℤ, pos, negsuc, Option, Some, None, slice_get, refl, sym, ap, ◌∙◌, subst, arith, append_assoc}
+use Rattle.std.proofs.Common.{◌≡◌, inl, inr, ℕ, ◌*◌, ◌≤◌, ◌<◌, ◌==◌, Bool, true, false, not, List, [], ◌∷◌, ◌++◌, map, length, get_or, Contains, ℤ, pos, Option, Some, None, slice_get, refl, sym, ap, ◌∙◌, subst, arith}
 use Rattle.std.specs.Prelude.{option_map}
 use Rattle.std.specs.Global.{Vec}
-use Rattle.std.specs.declared.cmp.Ordering.{Ordering}
-use Rattle.std.specs.declared.cmp.Ordering.TheVariants.{Less, Equal, Greater}
-use Rattle.std.specs.Ordering.{is_lt, int_cmp, ordering_then}
+use Rattle.std.specs.declared.cmp.Ordering.TheVariants.{Equal}
+use Rattle.std.specs.Ordering.{is_lt, int_cmp}
 use Rattle.std.specs.Cmp.{IsTotalOrder}
-use Rattle.std.specs.Cmp.Lexicographic.{slice_cmp, lists_total}
+use Rattle.std.specs.Cmp.Lexicographic.{lists_total}
 use Rattle.std.specs.List.{position_or_len}
 use Rattle.std.specs.List.Sorted.{IsPermutation}
 use Rattle.std.proofs.lemmas.Cmp.{int_cmp_total}
 use Rattle.std.proofs.lemmas.Bool.Decides.{eqb_tells, leb_tells}
 use Rattle.std.proofs.lemmas.List.{length-map}
 use Rattle.std.proofs.lemmas.List.Sums.{fails_before_first, passes_at_first}
-use Rattle.std.proofs.lemmas.List.Sorted.{Contains-permutation, length_permutation}
+use Rattle.std.proofs.lemmas.List.Sorted.{Contains-permutation}
 use Rattle.std.proofs.lemmas.Option.{slice_get_cases, slice_get_within, slice_get-map}
 use Rattle.dep_expr.specs.Linear.{LinearForm}
-use Rattle.dep_expr.specs.declared.inequality.Ineq.{Ineq}
 use Rattle.checked_tree.specs.declared.checks.Check.{Check}
 use Rattle.checked_tree.specs.declared.checks.Cond.{Cond}
 use Rattle.checked_tree.specs.declared.checks.Cond.TheVariants as cond
 use Rattle.checked_tree.specs.declared.units.CheckedFn.{CheckedFn}
-use Rattle.check_elim.specs.declared.table.Classes.{Classes}
 use Rattle.check_elim.specs.Redundancy.{kind_number, same_check}
-use Rattle.check_elim.specs.Sets.{AreClasses, ClassFacts}
+use Rattle.check_elim.specs.Sets.{AreClasses}
 use Rattle.check_elim.specs.Tables.{terms_code, form_code, optional_code, cond_code, check_code, codes_cmp, class_among, AreCodesSorted}
 use Rattle.check_elim.proofs.Deciding.{kind_is, same_tells}
 use Rattle.check_elim.proofs.Orders.{int_equal, then_equal}
@@ -154,10 +151,11 @@ class_there codes code v sorted c same =
     let here : (get_or codes c.0 v).items ≡ code = ap (λ (w : Vec ℤ). w.items) c.2 ∙ same in
     let at : not (is_lt (codes_cmp (get_or codes c.0 v).items code)) ≡ true = ap (λ (l : List ℤ). not (is_lt (codes_cmp l code))) here ∙ ap not (Rattle.check_elim.proofs.Searching.itself (λ (l : List ℤ). l) codes_total codes_equal code) in
     let low : first ≤ c.0 = elim (leb_tells first c.0) [ inl q ↦ q.1 | inr q ↦ absurd (let w : true ≡ false = sym at ∙ fails_before_first p codes c.0 v q.1 in cc) ] in
-    let inside : first < length codes = omega (arith, low, c.1) in
-    ( inside
-    , neither (λ (l : List ℤ). l) codes_total codes_equal (get_or codes first v).items code (not_true (is_lt (codes_cmp (get_or codes first v).items code)) (passes_at_first p codes v inside))
-      (subst (λ (l : List ℤ). is_lt (codes_cmp l (get_or codes first v).items) ≡ false) here (sorted first c.0 v low c.1)) )
+    let inside : first < length codes = omega (arith, low, c.1) in (
+      inside,
+      neither (λ (l : List ℤ). l) codes_total codes_equal (get_or codes first v).items code (not_true (is_lt (codes_cmp (get_or codes first v).items code)) (passes_at_first p codes v inside))
+          (subst (λ (l : List ℤ). is_lt (codes_cmp l (get_or codes first v).items) ≡ false) here (sorted first c.0 v low c.1)),
+    )
   where
     not_true : (b : Bool) → not b ≡ true → b ≡ false
     not_true true e = absurd cc
@@ -168,14 +166,15 @@ module _ (f : CheckedFn) (old codes : List (Vec ℤ)) (numbers : List ℕ) (code
   -- the code of each check is there
   code_there : (p : ℕ) (c : Check) → slice_get f.checks p ≡ Some c → (v : Vec ℤ) × Contains codes v × (v.items ≡ check_code c)
   code_there p c at = elim (slice_get_cases old p).1 [
-      inl q ↦
+    | inl q ↦
         let same : Some q.0.items ≡ Some (check_code c) =
-            sym (slice_get-map (λ (v : Vec ℤ). v.items) old p ∙ ap (option_map (λ (v : Vec ℤ). v.items)) q.2)
-            ∙ (ap (λ (l : List (List ℤ)). slice_get l p) coded ∙ (slice_get-map check_code f.checks p ∙ ap (option_map check_code) at)) in
+        sym (slice_get-map (λ (v : Vec ℤ). v.items) old p ∙ ap (option_map (λ (v : Vec ℤ). v.items)) q.2)
+        ∙ (ap (λ (l : List (List ℤ)). slice_get l p) coded ∙ (slice_get-map check_code f.checks p ∙ ap (option_map check_code) at)) in
         (q.0, Contains-permutation old codes q.0 moved (p, q.1, q.3), cc)
     | inr q ↦ absurd (let w : ◌≡◌ {A = Option (List ℤ)} None (Some (check_code c)) =
-          sym (slice_get-map (λ (v : Vec ℤ). v.items) old p ∙ ap (option_map (λ (v : Vec ℤ). v.items)) q.1)
-          ∙ (ap (λ (l : List (List ℤ)). slice_get l p) coded ∙ (slice_get-map check_code f.checks p ∙ ap (option_map check_code) at)) in cc) ]
+        sym (slice_get-map (λ (v : Vec ℤ). v.items) old p ∙ ap (option_map (λ (v : Vec ℤ). v.items)) q.1)
+        ∙ (ap (λ (l : List (List ℤ)). slice_get l p) coded ∙ (slice_get-map check_code f.checks p ∙ ap (option_map check_code) at)) in cc)
+  ]
 
   abbrev class : Check → ℕ
   class c = class_among codes (check_code c)
@@ -202,8 +201,9 @@ module _ (f : CheckedFn) (old codes : List (Vec ℤ)) (numbers : List ℕ) (code
       let one : class c ≡ k = class_at p c k at g in
       let two : class d ≡ l = class_at q d l there h in
       elim (eqb_tells k l) [
-        inl e ↦ e.0 ∙ sym (code_is c d (class_same p q c d at there (one ∙ (e.1 ∙ sym two))))
-      | inr e ↦ e.0 ∙ sym (by (same_check c d) refl (λ s. e.1 (sym one ∙ (ap (class_among codes) (same_code c d s) ∙ two)))) ]
+        | inl e ↦ e.0 ∙ sym (code_is c d (class_same p q c d at there (one ∙ (e.1 ∙ sym two))))
+        | inr e ↦ e.0 ∙ sym (by (same_check c d) refl (λ s. e.1 (sym one ∙ (ap (class_among codes) (same_code c d s) ∙ two))))
+      ]
     where
       by : (b : Bool) → same_check c d ≡ b → (same_check c d ≡ true → ⊥) → b ≡ false
       by true e no_way = absurd (no_way e)
@@ -213,11 +213,12 @@ module _ (f : CheckedFn) (old codes : List (Vec ℤ)) (numbers : List ℕ) (code
   unfolding AreClasses
   classes_are size v is room =
       subst (λ (l : List ℕ). (length l ≡ length f.checks) × ((place k : ℕ) → slice_get l place ≡ Some k → k < 64 * size)
-          × ((p q k l2 : ℕ) (c d : Check) → slice_get f.checks p ≡ Some c → slice_get f.checks q ≡ Some d → slice_get l p ≡ Some k → slice_get l q ≡ Some l2 → (k == l2) ≡ same_check c d) → AreClasses f (record { size = size; numbers = v })) is
+      × ((p q k l2 : ℕ) (c d : Check) → slice_get f.checks p ≡ Some c → slice_get f.checks q ≡ Some d → slice_get l p ≡ Some k → slice_get l q ≡ Some l2 → (k == l2) ≡ same_check c d) → AreClasses f (record { size = size; numbers = v })) is
       (λ h. record { count = h.0; fits = h.1; same = h.2 })
       (ap length are ∙ length-map f.checks class, (λ place k here. fit place k here), classes_agree)
     where
       fit : (place k : ℕ) → slice_get numbers place ≡ Some k → k < 64 * size
       fit place k here = elim (slice_get_cases f.checks place).1 [
-          inl q ↦ omega (arith, class_inside place q.0 q.2, class_at place q.0 k q.2 here, room)
-        | inr q ↦ absurd (omega (arith, q.0, slice_get_within numbers place k here, ap length are, length-map f.checks class)) ]
+        | inl q ↦ omega (arith, class_inside place q.0 q.2, class_at place q.0 k q.2 here, room)
+        | inr q ↦ absurd (omega (arith, q.0, slice_get_within numbers place k here, ap length are, length-map f.checks class))
+      ]

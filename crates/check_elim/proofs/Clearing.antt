@@ -1,5 +1,5 @@
 -- A run of numbers taken out of a set, word by word and bit by bit.
-use Rattle.std.proofs.Common.{◌≡◌, ◌≢◌, ◌⊎◌, inl, inr, ℕ, zero, suc, ◌+◌, ◌*◌, ◌/◌, ◌%◌, ◌<◌, ◌≤◌, ◌==◌, Bool, true, false, ◌&&◌, leb, nat_lt, nat_eq, if◌then◌else◌, List, [], ◌∷◌, length, get_or, slice_set, slice_index_or, Option, Some, None, slice_get, refl, sym, ap, ◌∙◌, arith}
+use Rattle.std.proofs.Common.{◌≡◌, ◌≢◌, ◌⊎◌, inl, inr, ℕ, suc, ◌+◌, ◌*◌, ◌/◌, ◌%◌, ◌<◌, ◌≤◌, ◌==◌, Bool, true, false, ◌&&◌, leb, nat_lt, nat_eq, if◌then◌else◌, List, length, get_or, slice_set, Option, Some, None, refl, sym, ap, ◌∙◌, arith}
 use Rattle.std.specs.Int.{bit_at}
 use Rattle.std.proofs.lemmas.Bool.Decides.{leb_tells, eqb_tells}
 use Rattle.std.proofs.lemmas.List.{get_or-set_same, get_or-set_other}
@@ -30,10 +30,12 @@ le_no m j h = elim (leb_tells m j) [ inl p ↦ absurd (omega (arith, p.1, h)) | 
 pub further : (from number next j : ℕ) (new old : Bool) → from ≤ number → number ≤ next
     → (number ≤ j → j < next → new ≡ false) → ((j < number) ⊎ (next ≤ j) → new ≡ (if in_run from number j then false else old)) → new ≡ (if in_run from next j then false else old)
 further from number next j new old low up inside outside = elim (leb_tells number j) [
-    inl p ↦ elim (leb_tells (suc j) next) [
-      inl q ↦ inside p.1 q.1 ∙ sym (ap (λ (b : Bool). if b then false else old) ((λ i. le_yes from j (omega (arith, low, p.1)) i && q.0 i)))
-    | inr q ↦ outside (inr (omega (arith, q.1))) ∙ ap (λ (b : Bool). if leb from j && b then false else old) (lt_no j number p.1 ∙ sym q.0) ]
-  | inr p ↦ outside (inl p.1) ∙ ap (λ (b : Bool). if leb from j && b then false else old) (lt_yes j number p.1 ∙ sym (lt_yes j next (omega (arith, p.1, up)))) ]
+  | inl p ↦ elim (leb_tells (suc j) next) [
+    | inl q ↦ inside p.1 q.1 ∙ sym (ap (λ (b : Bool). if b then false else old) ((λ i. le_yes from j (omega (arith, low, p.1)) i && q.0 i)))
+    | inr q ↦ outside (inr (omega (arith, q.1))) ∙ ap (λ (b : Bool). if leb from j && b then false else old) (lt_no j number p.1 ∙ sym q.0)
+  ]
+  | inr p ↦ outside (inl p.1) ∙ ap (λ (b : Bool). if leb from j && b then false else old) (lt_yes j number p.1 ∙ sym (lt_yes j next (omega (arith, p.1, up))))
+]
 
 zero_word : (i : ℕ) → bit_is 0 i ≡ false
 unfolding bit_is
@@ -117,8 +119,9 @@ on_line s (Some i) h = by (same_terms s.left.terms i.left.terms) (Rattle.std.spe
 pub given_none : (g : ℕ → Bool) (line : ℕ → Bool) (from to : ℕ) (set : ℕ → Bool) → ((j : ℕ) → line j ≡ false → g j ≡ false) → ((j : ℕ) → in_run from to j ≡ line j)
     → (j : ℕ) → set j ≡ (if g j && nat_lt j from then false else set j)
 given_none g line from to set below run j = elim (leb_tells from j) [
-    inl p ↦ sym (ap (λ (b : Bool). if b then false else set j) (ap (λ b. g j && b) (lt_no j from p.1) ∙ and_false (g j)))
-  | inr p ↦ sym (ap (λ (b : Bool). if b && nat_lt j from then false else set j) (below j (sym (run j) ∙ ap (λ b. b && nat_lt j to) p.0))) ]
+  | inl p ↦ sym (ap (λ (b : Bool). if b then false else set j) (ap (λ b. g j && b) (lt_no j from p.1) ∙ and_false (g j)))
+  | inr p ↦ sym (ap (λ (b : Bool). if b && nat_lt j from then false else set j) (below j (sym (run j) ∙ ap (λ b. b && nat_lt j to) p.0)))
+]
   where
     and_false : (a : Bool) → (a && false) ≡ false
     and_false true = refl
@@ -128,8 +131,9 @@ pub given_next : (g : ℕ → Bool) (n : ℕ) (implied : Bool) (old words new : 
     → ((j : ℕ) → words j ≡ (if g j && nat_lt j n then false else old j)) → ((j : ℕ) → new j ≡ (if implied && (j == n) then false else words j))
     → (j : ℕ) → new j ≡ (if g j && nat_lt j (n + 1) then false else old j)
 given_next g n implied old words new is each step j = elim (eqb_tells j n) [
-    inl same ↦ step j ∙ by (g j) implied (is ∙ ap g (sym same.1)) (nat_eq j n) same.0 (nat_lt j (n + 1)) (lt_yes j (n + 1) (omega (arith, same.1))) (words j) (each j ∙ drop_it (g j) (nat_lt j n) (lt_no j n (omega (arith, same.1))))
-  | inr apart ↦ step j ∙ (drop_test implied (nat_eq j n) apart.0 ∙ (each j ∙ ap (λ (b : Bool). if g j && b then false else old j) (below apart.1))) ]
+  | inl same ↦ step j ∙ by (g j) implied (is ∙ ap g (sym same.1)) (nat_eq j n) same.0 (nat_lt j (n + 1)) (lt_yes j (n + 1) (omega (arith, same.1))) (words j) (each j ∙ drop_it (g j) (nat_lt j n) (lt_no j n (omega (arith, same.1))))
+  | inr apart ↦ step j ∙ (drop_test implied (nat_eq j n) apart.0 ∙ (each j ∙ ap (λ (b : Bool). if g j && b then false else old j) (below apart.1)))
+]
   where
     drop_it : (a b : Bool) → b ≡ false → (if a && b then false else old j) ≡ old j
     drop_it true b h = ap (λ (x : Bool). if x then false else old j) h
@@ -152,10 +156,11 @@ given_next g n implied old words new is each step j = elim (eqb_tells j n) [
 pub given_all_of : (g : ℕ → Bool) (line : ℕ → Bool) (from to n : ℕ) (old words : ℕ → Bool) → ((j : ℕ) → line j ≡ false → g j ≡ false) → ((j : ℕ) → in_run from to j ≡ line j) → to ≤ n
     → ((j : ℕ) → words j ≡ (if g j && nat_lt j n then false else old j)) → (j : ℕ) → words j ≡ (if g j then false else old j)
 given_all_of g line from to n old words below run end each j = elim (leb_tells (suc j) to) [
-    inl p ↦ each j ∙ ap (λ (b : Bool). if b then false else old j) (ap (λ b. g j && b) (lt_yes j n (omega (arith, p.1, end))) ∙ and_true_right (g j))
+  | inl p ↦ each j ∙ ap (λ (b : Bool). if b then false else old j) (ap (λ b. g j && b) (lt_yes j n (omega (arith, p.1, end))) ∙ and_true_right (g j))
   | inr p ↦
       let no : g j ≡ false = below j (sym (run j) ∙ (ap (λ b. leb from j && b) p.0 ∙ and_false (leb from j))) in
-      each j ∙ (ap (λ (b : Bool). if b && nat_lt j n then false else old j) no ∙ sym (ap (λ (b : Bool). if b then false else old j) no)) ]
+      each j ∙ (ap (λ (b : Bool). if b && nat_lt j n then false else old j) no ∙ sym (ap (λ (b : Bool). if b then false else old j) no))
+]
   where
     and_false : (a : Bool) → (a && false) ≡ false
     and_false true = refl

@@ -1,7 +1,6 @@
 -- The test of redundancy is the statement over walks.
-use Rattle.std.proofs.Common.{◌≡◌, ◌⊎◌, inl, inr, ℕ, ◌==◌, Bool, true, false, not, ◌&&◌, ◌||◌, List, [], ◌∷◌, Option, Some, None, All, Contains, Decides, refl, sym, ap, ◌∙◌, subst}
-use Rattle.std.specs.Prelude.{IsTrue}
-use Rattle.std.specs.List.{list_all, list_any, Any}
+use Rattle.std.proofs.Common.{◌≡◌, ◌⊎◌, inl, inr, ℕ, ◌==◌, Bool, true, false, not, ◌&&◌, ◌||◌, List, Option, Some, None, All, Contains, Decides, refl, sym, ap, ◌∙◌, subst}
+use Rattle.std.specs.List.{list_all, list_any}
 use Rattle.std.specs.Ordering.{int_eq}
 use Rattle.std.proofs.lemmas.Bool.Decides.{Decides-int_eq, Decides-eqb, Decides-by_and}
 use Rattle.std.proofs.lemmas.List.Folds.{Any-from_list_any, list_any-from_Any}
@@ -15,11 +14,11 @@ use Rattle.checked_tree.specs.declared.checks.Cond.TheVariants.{Le, Aligned, Non
 use Rattle.checked_tree.specs.declared.units.CheckedFn.{CheckedFn}
 use Rattle.checked_tree.specs.Eval.{check_of}
 use Rattle.checked_tree.specs.Flow.{Event, Tests, Assigns, Finds, Passes, Flow}
-use Rattle.checked_tree.specs.Redundant.{is_constant, flows_of, paths_to, cond_inequality, IsSameCheck, Equals, FollowsEqual, FollowsInequality, IsRedundant, RedundantAt, Redundant}
-use Rattle.check_elim.specs.Ways.{Way, Lost, comes, met_by}
+use Rattle.checked_tree.specs.Redundant.{is_constant, flows_of, paths_to, cond_inequality, IsSameCheck, Equals, FollowsEqual, FollowsInequality, RedundantAt, Redundant}
+use Rattle.check_elim.specs.Ways.{Lost, comes, met_by}
 use Rattle.check_elim.specs.Equal.{equal_effect}
 use Rattle.check_elim.specs.Facts.{same_form, is_lost}
-use Rattle.check_elim.specs.Redundancy.{kind_number, same_optional, same_cond, same_check, is_same, equals, follows_equal, follows_inequality, is_redundant, redundant_at, redundant}
+use Rattle.check_elim.specs.Redundancy.{kind_number, same_optional, same_cond, same_check, is_same, equals, follows_equal, follows_inequality, redundant_at, redundant}
 use Rattle.check_elim.proofs.Implying.{form_same}
 use Rattle.check_elim.proofs.Exactly.{exactly}
 use Rattle.check_elim.proofs.Paths.{paths_tell, equal_met}
@@ -115,11 +114,12 @@ cond_itself (Kept tag new at size) =
 
 pub same_tells : (d c : Check) → Decides (same_check d c) ((d.kind ≡ c.kind) × (d.cond ≡ c.cond))
 unfolding same_check
-same_tells d c =
-    ( λ h. let p = both (kind_number d.kind == kind_number c.kind) (same_cond d.cond c.cond) h in
-      (kind_is d.kind c.kind ((Decides-eqb (kind_number d.kind) (kind_number c.kind)).0 p.0), cond_is d.cond c.cond p.1)
-    , λ h. join (kind_number d.kind == kind_number c.kind) (same_cond d.cond c.cond)
-      ((Decides-eqb (kind_number d.kind) (kind_number c.kind)).1 (ap kind_number h.0)) (subst (λ x. same_cond d.cond x ≡ true) h.1 (cond_itself d.cond)) )
+same_tells d c = (
+  λ h. let p = both (kind_number d.kind == kind_number c.kind) (same_cond d.cond c.cond) h in
+      (kind_is d.kind c.kind ((Decides-eqb (kind_number d.kind) (kind_number c.kind)).0 p.0), cond_is d.cond c.cond p.1),
+  λ h. join (kind_number d.kind == kind_number c.kind) (same_cond d.cond c.cond)
+      ((Decides-eqb (kind_number d.kind) (kind_number c.kind)).1 (ap kind_number h.0)) (subst (λ x. same_cond d.cond x ≡ true) h.1 (cond_itself d.cond)),
+)
 
 check_tells : (c : Check) (o : Option Check) → Decides (is_same c o) (IsSameCheck c o)
 check_tells c None = (λ h. absurd cc, λ h. absurd h)
@@ -133,9 +133,10 @@ equals_tells f c Passes = (λ h. absurd cc, λ h. absurd h)
 
 -- an equal check stands among the events of a path
 path_tells : (f : CheckedFn) (c : Check) (es : List Event) → Decides (list_any (equals f c) es) ((e : Event) × Contains es e × Equals f c e)
-path_tells f c es =
-    ( λ h. let a = Any-from_list_any (equals f c) es h in (a.1, (a.0, a.2, a.3), (equals_tells f c a.1).0 a.4)
-    , λ h. list_any-from_Any (equals f c) es (h.1.0, h.0, h.1.1, h.1.2, (equals_tells f c h.0).1 h.2) )
+path_tells f c es = (
+  λ h. let a = Any-from_list_any (equals f c) es h in (a.1, (a.0, a.2, a.3), (equals_tells f c a.1).0 a.4),
+  λ h. list_any-from_Any (equals f c) es (h.1.0, h.0, h.1.1, h.1.2, (equals_tells f c h.0).1 h.2),
+)
 
 not_not : (a b : Bool) → a ≡ not b → not a ≡ b
 not_not true true h = absurd cc

@@ -1,7 +1,6 @@
 -- The marks that the code makes are what the walks say.
-use Rattle.std.proofs.Common.{◌≡◌, ◌≢◌, ◌⊎◌, ℕ, zero, suc, ◌+◌, ◌-◌, ◌*◌, ◌<◌, ◌≤◌, ◌==◌, Bool, true, false, ◌&&◌, ◌||◌, nat_lt, nat_eq, if◌then◌else◌, List, [], ◌∷◌, length, Option, Some, None, slice_get, inl, inr, refl, sym, ap, ◌∙◌, subst, arith}
+use Rattle.std.proofs.Common.{◌≡◌, ◌≢◌, ◌⊎◌, ℕ, zero, suc, ◌-◌, ◌<◌, ◌≤◌, ◌==◌, Bool, true, false, ◌&&◌, ◌||◌, nat_lt, nat_eq, if◌then◌else◌, Option, Some, None, inl, inr, refl, sym, ap, ◌∙◌, subst, arith}
 use Rattle.std.proofs.lemmas.Bool.Decides.{eqb_tells}
-use Rattle.dep_expr.specs.declared.inequality.Ineq.{Ineq}
 use Rattle.checked_tree.specs.declared.expressions.CheckedExpr.{CheckedExpr}
 use Rattle.checked_tree.specs.declared.statements.CheckedStmt.{CheckedStmt}
 use Rattle.checked_tree.specs.declared.units.CheckedFn.{CheckedFn}
@@ -41,10 +40,11 @@ module _ (f : CheckedFn) (t : Table) (id j count : ℕ) (effect : Event → Effe
 
   own_note : (a : Facts) (b : Way) (m : Marking) (n : Way) → R a b → Q m n → Q (mark_own (id - 1) (Some j) a m) (either n b)
   own_note a b m n h q =
-      let low : nat_lt (id - 1) m.size ≡ true = ap (nat_lt (id - 1)) q.0 ∙ room (id - 1) count within in
-      ( q.0
-      , (λ k. if self (id - 1) k && low k then m.at (id - 1) || is_lost (a j) else m.at (id - 1))
-        ∙ ((λ k. q.1 k || is_lost (h k)) ∙ sym (lost_either n b)) )
+      let low : nat_lt (id - 1) m.size ≡ true = ap (nat_lt (id - 1)) q.0 ∙ room (id - 1) count within in (
+        q.0,
+        (λ k. if self (id - 1) k && low k then m.at (id - 1) || is_lost (a j) else m.at (id - 1))
+            ∙ ((λ k. q.1 k || is_lost (h k)) ∙ sym (lost_either n b)),
+      )
 
   no_own : (x : Table) → own_fact x 0 ≡ None
   no_own (table.Inequalities y) = refl
@@ -53,10 +53,11 @@ module _ (f : CheckedFn) (t : Table) (id j count : ℕ) (effect : Event → Effe
   other_note : (k : ℕ) (o : Option ℕ) → own_fact t k ≡ o → k ≢ id → (a : Facts) (m : Marking) (n : Way) → Q m n → Q (mark_own (k - 1) o a m) (either n Nowhere)
   other_note k None e apart a m n q = (q.0, q.1 ∙ ap is_lost (sym (right_nowhere n)))
   other_note zero (Some x) e apart a m n q = absurd (let w = sym (no_own t) ∙ e in cc)
-  other_note (suc k) (Some x) e apart a m n q =
-      ( q.0
-      , ap (λ (c : Bool). if c && nat_lt (suc k - 1) m.size then m.at (id - 1) || is_lost (a x) else m.at (id - 1)) (differ (id - 1) (suc k - 1) (λ z. apart (omega (arith, z, numbered))))
-        ∙ (q.1 ∙ ap is_lost (sym (right_nowhere n))) )
+  other_note (suc k) (Some x) e apart a m n q = (
+    q.0,
+    ap (λ (c : Bool). if c && nat_lt (suc k - 1) m.size then m.at (id - 1) || is_lost (a x) else m.at (id - 1)) (differ (id - 1) (suc k - 1) (λ z. apart (omega (arith, z, numbered))))
+        ∙ (q.1 ∙ ap is_lost (sym (right_nowhere n))),
+  )
 
   note_alike : (k : ℕ) (a : Facts) (b : Way) (m : Marking) (n : Way) → R a b → Q m n → Q (mark_one t k a m) (either n (here id (Tests k) b))
   unfolding mark_one
@@ -111,7 +112,7 @@ module _ (f : CheckedFn) (t : Table) (id j count : ℕ) (effect : Event → Effe
 
   pub statement_exact : (st : CheckedStmt) (w : Facts) (m : Marking) → w j ≡ Lost → m.size ≡ count
       → ((noted (act_of (passing (ops_of f t) f.slots st)) w m).size ≡ count)
-        × ((noted (act_of (passing (ops_of f t) f.slots st)) w m).at (id - 1) ≡ (m.at (id - 1) || is_lost (W.at_of (W.passing f effect id st) Lost)))
+      × ((noted (act_of (passing (ops_of f t) f.slots st)) w m).at (id - 1) ≡ (m.at (id - 1) || is_lost (W.at_of (W.passing f effect id st) Lost)))
   statement_exact st w m h size =
       let b : Bool = m.at (id - 1) in
       let q = (stmt_alike (ops_of f t) (one_of effect id) R Q alike f.slots st).note w Lost m (kept_way b) h (size, of_alone b) in
@@ -119,7 +120,7 @@ module _ (f : CheckedFn) (t : Table) (id j count : ℕ) (effect : Event → Effe
 
   pub test_exact : (e : CheckedExpr) (w : Facts) (m : Marking) → w j ≡ Lost → m.size ≡ count
       → ((asked_of (reading (ops_of f t) f.slots e) w m).size ≡ count)
-        × ((asked_of (reading (ops_of f t) f.slots e) w m).at (id - 1) ≡ (m.at (id - 1) || is_lost (comes effect id (as_test (seen f.slots e) (Leaves true) (Leaves false)) Lost)))
+      × ((asked_of (reading (ops_of f t) f.slots e) w m).at (id - 1) ≡ (m.at (id - 1) || is_lost (comes effect id (as_test (seen f.slots e) (Leaves true) (Leaves false)) Lost)))
   test_exact e w m h size =
       let b : Bool = m.at (id - 1) in
       let q = (expr_alike (ops_of f t) (one_of effect id) R Q alike f.slots e).asked w Lost m (kept_way b) h (size, of_alone b) in

@@ -1,18 +1,16 @@
 -- The facts of a function: which inequalities are among them, and what a table says of each check.
 use Rattle.std.proofs.Common.{◌≡◌, ◌⊎◌, inl, inr, ℕ, zero, suc, ◌+◌, ◌-◌, ◌*◌, ◌/◌, ◌≤◌, ◌<◌, ◌==◌, Bool, true, false, not, ◌&&◌, ◌||◌, leb, List, [], ◌∷◌, ◌++◌, map, length, get_or, drop, Contains, All, Option, Some, None, slice_get, if◌then◌else◌, refl, sym, ap, ◌∙◌, subst, arith, drop-cons, add-one, append_assoc}
-use Rattle.std.specs.declared.cmp.Ordering.{Ordering}
-use Rattle.std.specs.declared.cmp.Ordering.TheVariants.{Less, Equal, Greater}
-use Rattle.std.specs.Ordering.{is_lt, ordering_then, int_cmp}
-use Rattle.std.specs.Option.{option_cmp}
+use Rattle.std.specs.declared.cmp.Ordering.TheVariants.{Equal}
+use Rattle.std.specs.Ordering.{is_lt, int_cmp}
 use Rattle.std.specs.Cmp.{IsTotalOrder}
 use Rattle.std.specs.Cmp.Lexicographic.{options_total}
 use Rattle.std.specs.List.{flat_map, list_any, list_all, AllWithin}
 use Rattle.std.specs.List.Sorted.{IsPermutation, IsPartitionedBy}
-use Rattle.std.proofs.lemmas.Cmp.{on_total, then_total, int_cmp_total}
+use Rattle.std.proofs.lemmas.Cmp.{on_total, then_total}
 use Rattle.std.proofs.lemmas.List.{append-nil}
 use Rattle.std.proofs.lemmas.List.Concat.{flat_map-append}
-use Rattle.std.proofs.lemmas.Bool.Decides.{eqb_tells, leb_tells}
-use Rattle.std.proofs.lemmas.List.Elements.{Contains-append_left, Contains-append_right, Contains-append_cases, Contains-get_or}
+use Rattle.std.proofs.lemmas.Bool.Decides.{eqb_tells}
+use Rattle.std.proofs.lemmas.List.Elements.{Contains-append_left, Contains-append_right, Contains-append_cases}
 use Rattle.std.proofs.lemmas.List.Sorted.{Contains-permutation, IsPermutation-sym}
 use Rattle.std.proofs.lemmas.Option.{slice_get_cases, slice_get_within, get_or_from_slice_get}
 use Rattle.dep_expr.specs.Linear.{LinearForm}
@@ -23,9 +21,9 @@ use Rattle.checked_tree.specs.Redundant.{cond_inequality, check_inequality, is_o
 use Rattle.check_elim.specs.declared.table.CheckFact.{CheckFact}
 use Rattle.check_elim.specs.declared.table.Inequalities.{Inequalities}
 use Rattle.check_elim.specs.Order.{form_cmp, guard_cmp, fact_cmp, terms_cmp, IsInOrder}
-use Rattle.check_elim.specs.Sets.{own_at, inequality_at, IsOwn, IsMask, mask_at, speaks_of, AreInequalities, InequalityFacts}
+use Rattle.check_elim.specs.Sets.{own_at, inequality_at, IsOwn, IsMask, mask_at, speaks_of, AreInequalities}
 use Rattle.check_elim.specs.Bits.{has}
-use Rattle.check_elim.specs.Tables.{reads_none, slots_in, own_list, fact_list, found, AreSorted, IsCheckFact, paired, pairs_from, is_pair, has_pair}
+use Rattle.check_elim.specs.Tables.{reads_none, slots_in, own_list, fact_list, found, AreSorted, IsCheckFact}
 use Rattle.check_elim.proofs.Orders.{form_total, terms_equal, int_equal, then_equal, first_lt}
 use Rattle.check_elim.proofs.Searching.{stands, parted, neither, itself}
 
@@ -100,10 +98,11 @@ found_over f (x ∷ xs) i c = elim (Contains-append_cases (fact_list f x) (found
 -- of facts in order
 pub sorted_over : (f : CheckedFn) (old new : List Ineq) → old ≡ found f f.checks → IsPermutation old new → (j : ℕ) (i : Ineq) → slice_get new j ≡ Some i → is_over_locals f i ≡ true
 sorted_over f old new is moved j i at = elim (slice_get_cases new j).1 [
-    inl p ↦
+  | inl p ↦
       let same : p.0 ≡ i = (let w = sym p.2 ∙ at in cc) in
       found_over f f.checks i (subst (λ (l : List Ineq). Contains l i) is (Contains-permutation new old i (IsPermutation-sym old new moved) (j, p.1, subst (λ (x : Ineq). get_or new j x ≡ x) same p.3)))
-  | inr q ↦ absurd (let w = sym q.1 ∙ at in cc) ]
+  | inr q ↦ absurd (let w = sym q.1 ∙ at in cc)
+]
 
 pub sorted_all : (f : CheckedFn) (old new : List Ineq) → old ≡ found f f.checks → IsPermutation old new → (i : Ineq) → Contains (found f f.checks) i → Contains new i
 sorted_all f old new is moved i c = Contains-permutation old new i moved (subst (λ (l : List Ineq). Contains l i) (sym is) c)
@@ -117,8 +116,9 @@ module _ (list : List Ineq) (i : Ineq) (p : ℕ) (sorted : AreSorted list) (unde
   -- nothing stands at the point, or something behind the inequality: it is not there
   pub none_there : slice_get list p ≡ None → Contains list i → ⊥
   none_there none c = elim (slice_get_cases list p).1 [
-      inl q ↦ (let w = sym q.2 ∙ none in cc)
-    | inr q ↦ omega (arith, q.0, (point i c refl).0) ]
+    | inl q ↦ (let w = sym q.2 ∙ none in cc)
+    | inr q ↦ omega (arith, q.0, (point i c refl).0)
+  ]
 
   pub other_there : (fact : Ineq) → slice_get list p ≡ Some fact → is_lt (fact_cmp i fact) ≡ true → Contains list i → ⊥
   other_there fact at behind c =
@@ -163,9 +163,13 @@ asked_each f list xs count each place = by (slice_get f.checks place) (slice_get
     by None None g h = (refl, tt)
     by (Some c) (Some x) g h = let k = each place c x g h in (k.inequality, k.own)
     by None (Some x) g h = elim (slice_get_cases f.checks place).1 [
-        inl p ↦ absurd (let w = sym p.2 ∙ g in cc) | inr q ↦ absurd (omega (arith, q.0, count, slice_get_within xs place x h)) ]
+      | inl p ↦ absurd (let w = sym p.2 ∙ g in cc)
+      | inr q ↦ absurd (omega (arith, q.0, count, slice_get_within xs place x h))
+    ]
     by (Some c) None g h = elim (slice_get_cases xs place).1 [
-        inl p ↦ absurd (let w = sym p.2 ∙ h in cc) | inr q ↦ absurd (omega (arith, q.0, count, slice_get_within f.checks place c g)) ]
+      | inl p ↦ absurd (let w = sym p.2 ∙ h in cc)
+      | inr q ↦ absurd (omega (arith, q.0, count, slice_get_within f.checks place c g))
+    ]
 
 -- one more check
 pub each_more : (f : CheckedFn) (list : List Ineq) (cs : List Check) (xs : List CheckFact) (k : ℕ) (d : Check) (y : CheckFact) → length xs ≡ k → k < length cs → IsCheckFact f list (get_or cs k d) y

@@ -1,5 +1,5 @@
 -- Implication as a test.
-use Rattle.std.proofs.Common.{◌≡◌, ◌⊎◌, inl, inr, ℕ, ◌==◌, Bool, true, false, ◌&&◌, List, [], ◌∷◌, ℤ, pos, negsuc, int_le, Option, Some, None, Decides, refl, sym, ap, ap₂, ◌∙◌, subst, arith}
+use Rattle.std.proofs.Common.{◌≡◌, inl, inr, ℕ, ◌==◌, Bool, true, false, ◌&&◌, List, [], ◌∷◌, ℤ, pos, negsuc, int_le, Option, Some, None, Decides, refl, sym, ap, arith}
 use Rattle.std.proofs.lemmas.Int.{ints}
 use Rattle.std.specs.Ordering.{int_eq}
 use Rattle.std.specs.Prelude.{◌≤ℤ◌, ◌↔◌, IsTrue}
@@ -23,17 +23,19 @@ terms_same (t ∷ ts) [] = (λ h. absurd cc, λ h. absurd cc)
 terms_same (t ∷ ts) (u ∷ us) =
     let heads = Decides-int_eq t.0 u.0 in
     let atoms = Decides-eqb t.1 u.1 in
-    let rest = terms_same ts us in
-    ( λ h. let p = both (int_eq t.0 u.0) (t.1 == u.1 && same_terms ts us) h in let q = both (t.1 == u.1) (same_terms ts us) p.1 in
-      let a : t.0 ≡ u.0 = heads.0 p.0 in let b : t.1 ≡ u.1 = atoms.0 q.0 in let c : ts ≡ us = rest.0 q.1 in λ k. (a k, b k) ∷ c k
-    , λ h. let a : t ≡ u = cc in let c : ts ≡ us = cc in join (int_eq t.0 u.0) (t.1 == u.1 && same_terms ts us) (heads.1 (ap (λ x. x.0) a)) (join (t.1 == u.1) (same_terms ts us) (atoms.1 (ap (λ x. x.1) a)) (rest.1 c)) )
+    let rest = terms_same ts us in (
+      λ h. let p = both (int_eq t.0 u.0) (t.1 == u.1 && same_terms ts us) h in let q = both (t.1 == u.1) (same_terms ts us) p.1 in
+          let a : t.0 ≡ u.0 = heads.0 p.0 in let b : t.1 ≡ u.1 = atoms.0 q.0 in let c : ts ≡ us = rest.0 q.1 in λ k. (a k, b k) ∷ c k,
+      λ h. let a : t ≡ u = cc in let c : ts ≡ us = cc in join (int_eq t.0 u.0) (t.1 == u.1 && same_terms ts us) (heads.1 (ap (λ x. x.0) a)) (join (t.1 == u.1) (same_terms ts us) (atoms.1 (ap (λ x. x.1) a)) (rest.1 c)),
+    )
 
 pub form_same : (a b : LinearForm) → Decides (same_form a b) (a ≡ b)
 form_same a b =
     let ts = terms_same a.terms b.terms in
-    let cs = Decides-int_eq a.constant b.constant in
-    ( λ h. let p = both (same_terms a.terms b.terms) (int_eq a.constant b.constant) h in let x : a.terms ≡ b.terms = ts.0 p.0 in let y : a.constant ≡ b.constant = cs.0 p.1 in λ k. record { terms = x k; constant = y k }
-    , λ h. join (same_terms a.terms b.terms) (int_eq a.constant b.constant) (ts.1 (ap (λ x. x.terms) h)) (cs.1 (ap (λ x. x.constant) h)) )
+    let cs = Decides-int_eq a.constant b.constant in (
+      λ h. let p = both (same_terms a.terms b.terms) (int_eq a.constant b.constant) h in let x : a.terms ≡ b.terms = ts.0 p.0 in let y : a.constant ≡ b.constant = cs.0 p.1 in λ k. record { terms = x k; constant = y k },
+      λ h. join (same_terms a.terms b.terms) (int_eq a.constant b.constant) (ts.1 (ap (λ x. x.terms) h)) (cs.1 (ap (λ x. x.constant) h)),
+    )
 
 guard_same : (g h : Option LinearForm) → Decides (no_weaker g h) (IsNoWeaker g h)
 guard_same None h = (λ t. inl refl, λ t. refl)
@@ -52,11 +54,12 @@ pub implies_tells : (a b : Ineq) → Decides (implies a b) (Implies a b)
 unfolding implies
 implies_tells a b =
     let ts = terms_same a.left.terms b.left.terms in
-    let gs = guard_same a.guard b.guard in
-    ( λ h. let p = both (same_terms a.left.terms b.left.terms) (int_le b.left.constant a.left.constant && no_weaker a.guard b.guard) h in
-      let q = both (int_le b.left.constant a.left.constant) (no_weaker a.guard b.guard) p.1 in
-      record { terms = ts.0 p.0; constant = (order_tells b.left.constant a.left.constant).0 q.0; guard = gs.0 q.1 }
-    , λ h. join (same_terms a.left.terms b.left.terms) (int_le b.left.constant a.left.constant && no_weaker a.guard b.guard) (ts.1 h.terms) (join (int_le b.left.constant a.left.constant) (no_weaker a.guard b.guard) ((order_tells b.left.constant a.left.constant).1 h.constant) (gs.1 h.guard)) )
+    let gs = guard_same a.guard b.guard in (
+      λ h. let p = both (same_terms a.left.terms b.left.terms) (int_le b.left.constant a.left.constant && no_weaker a.guard b.guard) h in
+          let q = both (int_le b.left.constant a.left.constant) (no_weaker a.guard b.guard) p.1 in
+          record { terms = ts.0 p.0; constant = (order_tells b.left.constant a.left.constant).0 q.0; guard = gs.0 q.1 },
+      λ h. join (same_terms a.left.terms b.left.terms) (int_le b.left.constant a.left.constant && no_weaker a.guard b.guard) (ts.1 h.terms) (join (int_le b.left.constant a.left.constant) (no_weaker a.guard b.guard) ((order_tells b.left.constant a.left.constant).1 h.constant) (gs.1 h.guard)),
+    )
 
 -- the answer of code that decides implication
 pub implies_is : (a b : Ineq) (r : Bool) → (IsTrue r ↔ Implies a b) → r ≡ implies a b

@@ -1,28 +1,25 @@
 -- Sets of lost facts: what is taken, given and marked.
-use Rattle.std.proofs.Common.{◌≡◌, ◌⊎◌, inl, inr, ℕ, zero, suc, ◌+◌, ◌-◌, ◌*◌, ◌<◌, ◌≤◌, ◌==◌, Bool, true, false, ◌&&◌, ◌||◌, nat_lt, nat_eq, List, [], ◌∷◌, length, drop, get_or, slice_set, slice_get, Option, Some, None, if◌then◌else◌, refl, sym, ap, ◌∙◌, subst, arith, drop-cons, add-one}
+use Rattle.std.proofs.Common.{◌≡◌, inl, inr, ℕ, zero, suc, ◌+◌, ◌-◌, ◌*◌, ◌<◌, ◌≤◌, ◌==◌, Bool, true, false, ◌&&◌, ◌||◌, nat_lt, nat_eq, List, [], ◌∷◌, length, drop, get_or, slice_set, slice_get, Option, Some, None, if◌then◌else◌, refl, sym, ap, ◌∙◌, arith, drop-cons, add-one}
 use Rattle.std.specs.List.{list_any}
 use Rattle.std.specs.Prelude.{replicate, slice_index_or, ◌/◌, ◌%◌}
 use Rattle.std.specs.Int.{bit_at}
-use Rattle.std.specs.Global.{Vec}
 use Rattle.std.proofs.lemmas.Bool.Decides.{eqb_tells, leb_tells}
 use Rattle.std.proofs.lemmas.List.{get_or-set_same, get_or-set_other, length-set, get_or-replicate, get_or_past, length-replicate}
 use Rattle.std.proofs.lemmas.Nat.Bits.{bit_at-zero, bit_at_ones}
 use Rattle.dep_expr.specs.Linear.{LinearForm}
 use Rattle.dep_expr.specs.declared.inequality.Ineq.{Ineq}
-use Rattle.checked_tree.specs.declared.checks.Check.{Check}
 use Rattle.checked_tree.specs.declared.units.CheckedFn.{CheckedFn}
 use Rattle.checked_tree.specs.Eval.{check_of}
 use Rattle.checked_tree.specs.Flow.{Event, Tests, Assigns, Finds}
-use Rattle.checked_tree.specs.Redundant.{check_inequality, event_inequality, assigns_any, slots_of, fact_over_atoms}
+use Rattle.checked_tree.specs.Redundant.{check_inequality, event_inequality, assigns_any, slots_of}
 use Rattle.check_elim.specs.declared.table.Table.{Table}
 use Rattle.check_elim.specs.declared.table.Table.TheVariants as table
 use Rattle.check_elim.specs.declared.table.Inequalities.{Inequalities}
 use Rattle.check_elim.specs.declared.table.Classes.{Classes}
-use Rattle.check_elim.specs.declared.table.CheckFact.{CheckFact}
 use Rattle.check_elim.specs.Bits.{has, bit_is}
-use Rattle.check_elim.specs.Ways.{Effect, Gives, Takes, Keeps, Way, Nowhere, Sure, Lost, after, reached}
+use Rattle.check_elim.specs.Ways.{Keeps, Way, after, reached}
 use Rattle.check_elim.specs.Facts.{implies, gives, effect, effect_of, is_lost}
-use Rattle.check_elim.specs.Sets.{Facts, way_of, ways, effect_in, gives_in, given, given_all, after_list, after_class, after_all, class_of, is_number, all_lost, guard_all, mask_at, speaks_of, asked_at, inequality_at, InequalityFacts, AreInequalities, Marking, mark_own, mark_one, own_fact}
+use Rattle.check_elim.specs.Sets.{Facts, way_of, ways, effect_in, gives_in, given, given_all, after_list, after_class, after_all, class_of, is_number, all_lost, guard_all, mask_at, speaks_of, asked_at, inequality_at, AreInequalities, Marking, mark_own, mark_one, own_fact}
 use Rattle.check_elim.proofs.Laws.{after_nowhere}
 
 -- ---- masks
@@ -62,9 +59,10 @@ all_are_lost n words is = λ t j. (ap (λ l. way_of true (has l j)) is ∙ ap (w
   where
     by : (j : ℕ) → has (replicate n 18446744073709551615) j ≡ nat_lt j (64 * n)
     by j = elim (leb_tells (suc j) (64 * n)) [
-        inl p ↦ has_all n j p.1 ∙ sym p.0
+      | inl p ↦ has_all n j p.1 ∙ sym p.0
       | inr p ↦ ap (λ w. nat_eq (bit_at w (j % 64)) 1) (get_or_past (replicate n 18446744073709551615) (j / 64) 0 (omega (arith, p.1, length-replicate {A = ℕ} n 18446744073709551615)))
-        ∙ (ap (λ w. nat_eq w 1) (bit_at-zero (j % 64)) ∙ sym p.0) ]
+          ∙ (ap (λ w. nat_eq w 1) (bit_at-zero (j % 64)) ∙ sym p.0)
+    ]
 
 -- ---- classes
 given_way : (b x : Bool) → way_of true (if b then false else x) ≡ after (given b) (way_of true x)
@@ -83,8 +81,10 @@ class_given t id k r old new is each = λ i j. (ap (way_of r) (each j) ∙ (by r
     by true b x = given_way b x
 
     turned : (j : ℕ) → (j == k) ≡ (k == j)
-    turned j = elim (eqb_tells j k) [ inl p ↦ p.0 ∙ sym (elim (eqb_tells k j) [ inl q ↦ q.0 | inr q ↦ absurd (q.1 (sym p.1)) ])
-      | inr p ↦ p.0 ∙ sym (elim (eqb_tells k j) [ inl q ↦ absurd (p.1 (sym q.1)) | inr q ↦ q.0 ]) ]
+    turned j = elim (eqb_tells j k) [
+      | inl p ↦ p.0 ∙ sym (elim (eqb_tells k j) [ inl q ↦ q.0 | inr q ↦ absurd (q.1 (sym p.1)) ])
+      | inr p ↦ p.0 ∙ sym (elim (eqb_tells k j) [ inl q ↦ absurd (p.1 (sym q.1)) | inr q ↦ q.0 ])
+    ]
 
 pub no_class : (t : Classes) (id : ℕ) (w : Facts) → class_of t id ≡ None → w ≡ after_class t (Tests id) w
 unfolding after_class
@@ -198,14 +198,16 @@ marked_one place own w l low b is = λ i. record { size = length-set l place (ge
   where
     by : (k : ℕ) → get_or (slice_set l place (get_or l place false || b)) k false ≡ (if k == place && nat_lt place (length l) then get_or l k false || is_lost (w own) else get_or l k false)
     by k = elim (eqb_tells k place) [
-        inl same ↦ rw same.0 (rw (room place (length l) low) (rw same.1 (get_or-set_same l place (get_or l place false || b) false low ∙ ap (λ c. get_or l place false || c) is)))
-      | inr other ↦ rw other.0 (get_or-set_other l place k (get_or l place false || b) false other.1) ]
+      | inl same ↦ rw same.0 (rw (room place (length l) low) (rw same.1 (get_or-set_same l place (get_or l place false || b) false low ∙ ap (λ c. get_or l place false || c) is)))
+      | inr other ↦ rw other.0 (get_or-set_other l place k (get_or l place false || b) false other.1)
+    ]
 
 pub marked_at : (place own : ℕ) (w : Facts) (l new : List Bool) (b : Bool) → b ≡ is_lost (w own)
     → new ≡ (if nat_lt place (length l) then slice_set l place (get_or l place false || b) else l) → ◌≡◌ {A = Marking} (marks new) (mark_own place (Some own) w (marks l))
 marked_at place own w l new b is same = elim (leb_tells (suc place) (length l)) [
-    inl p ↦ ap marks (same ∙ ap (λ (c : Bool). if c then slice_set l place (get_or l place false || b) else l) p.0) ∙ marked_one place own w l p.1 b is
-  | inr p ↦ ap marks (same ∙ ap (λ (c : Bool). if c then slice_set l place (get_or l place false || b) else l) p.0) ∙ sym (unmarked place own w (marks l) (omega (arith, p.1))) ]
+  | inl p ↦ ap marks (same ∙ ap (λ (c : Bool). if c then slice_set l place (get_or l place false || b) else l) p.0) ∙ marked_one place own w l p.1 b is
+  | inr p ↦ ap marks (same ∙ ap (λ (c : Bool). if c then slice_set l place (get_or l place false || b) else l) p.0) ∙ sym (unmarked place own w (marks l) (omega (arith, p.1)))
+]
 
 pub uncounted : (t : Table) (id : ℕ) (w : Facts) (l : List Bool) → length l ≤ 0 → mark_one t id w (marks l) ≡ marks l
 unfolding mark_one

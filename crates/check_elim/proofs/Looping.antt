@@ -1,5 +1,5 @@
 -- Rounds of loops, one after another.
-use Rattle.std.proofs.Common.{◌≡◌, ◌⊎◌, inl, inr, ℕ, zero, suc, ◌+◌, ◌<◌, ◌≤◌, Bool, true, List, [], ◌∷◌, ◌++◌, length, drop, get_or, slice_set, map, Result, Ok, Err, OnOk, refl, sym, ap, ◌∙◌, subst, arith, drop-cons, add-one}
+use Rattle.std.proofs.Common.{◌≡◌, inl, inr, ℕ, zero, suc, ◌+◌, ◌<◌, true, List, [], ◌∷◌, ◌++◌, length, drop, get_or, slice_set, Result, Ok, Err, OnOk, refl, sym, ap, ◌∙◌, subst, arith, drop-cons, add-one}
 use Rattle.std.proofs.lemmas.Bool.Decides.{leb_tells}
 use Rattle.std.proofs.lemmas.List.{append_assoc, append-nil, length-append}
 use Rattle.std.proofs.Math.Seq.{set-append_seam}
@@ -91,8 +91,9 @@ stand_right size xs bs ls next h = subst (Begins size bs) (drop_twice next (leng
 pub stand_within : (size : ℕ) (b : Facts) (bs : List Facts) (ls : List Lost) (next : ℕ) → Stand size (b ∷ bs) ls next → next < length ls
 unfolding Stand
 stand_within size b bs ls next h = elim (leb_tells (suc next) (length ls)) [
-    inl p ↦ omega (arith, p.1)
-  | inr p ↦ absurd (subst (Begins size (b ∷ bs)) (drop_of_length-le ls (omega (arith, p.1))) h) ]
+  | inl p ↦ omega (arith, p.1)
+  | inr p ↦ absurd (subst (Begins size (b ∷ bs)) (drop_of_length-le ls (omega (arith, p.1))) h)
+]
 
 pub stand_first : (size : ℕ) (b : Facts) (bs : List Facts) (ls : List Lost) (next : ℕ) (d : Lost) → Stand size (b ∷ bs) ls next → (size_of (get_or ls next d) ≡ size) × (facts (get_or ls next d) ≡ b)
 unfolding Stand

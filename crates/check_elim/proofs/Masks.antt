@@ -1,5 +1,5 @@
 -- The masks of slots: the facts that speak of each.
-use Rattle.std.proofs.Common.{◌≡◌, ◌≢◌, ◌⊎◌, inl, inr, ℕ, zero, suc, ◌+◌, ◌-◌, ◌*◌, ◌≤◌, ◌<◌, ◌==◌, Bool, true, false, ◌&&◌, ◌||◌, nat_eq, List, [], ◌∷◌, ◌++◌, map, length, get_or, drop, Contains, Option, Some, None, slice_get, if◌then◌else◌, refl, sym, ap, ◌∙◌, subst, arith, drop-cons, add-one}
+use Rattle.std.proofs.Common.{◌≡◌, ◌≢◌, inl, inr, ℕ, zero, suc, ◌+◌, ◌*◌, ◌≤◌, ◌<◌, ◌==◌, Bool, true, false, ◌&&◌, ◌||◌, List, [], ◌∷◌, ◌++◌, map, length, get_or, drop, Contains, Option, Some, None, slice_get, if◌then◌else◌, refl, sym, ap, ◌∙◌, subst, arith, drop-cons, add-one}
 use Rattle.std.specs.Prelude.{replicate}
 use Rattle.std.specs.List.{list_any}
 use Rattle.std.specs.Global.{Vec}
@@ -79,8 +79,9 @@ one_number n (s ∷ l) p (suc k) low is = one_number n l p k (omega (arith, low)
 pairs_low : (f : CheckedFn) (n : ℕ) (is : List Ineq) (p : ℕ × ℕ) → Contains (pairs_from f n is) p → p.1 < n + length is
 pairs_low f n [] p c = absurd (omega (arith, c.1))
 pairs_low f n (i ∷ is) p c = elim (Contains-append_cases (map (paired n) (slots_of f i)) (pairs_from f (n + 1) is) p c) [
-    inl h ↦ omega (arith, one_number n (slots_of f i) p h.0 h.1 h.2)
-  | inr h ↦ omega (arith, pairs_low f (n + 1) is p h) ]
+  | inl h ↦ omega (arith, one_number n (slots_of f i) p h.0 h.1 h.2)
+  | inr h ↦ omega (arith, pairs_low f (n + 1) is p h)
+]
 
 pub numbers_fit : (f : CheckedFn) (list : List Ineq) (size : ℕ) → length list ≤ 64 * size → (p : ℕ × ℕ) → Contains (pairs_from f 0 list) p → p.1 < 64 * size
 numbers_fit f list size room p c = omega (arith, pairs_low f 0 list p c, room)
@@ -114,8 +115,9 @@ mask_more slot pairs k d old new low own each before j =
 
     turned : (a b : ℕ) → (a == b) ≡ (b == a)
     turned a b = elim (eqb_tells a b) [
-        inl p ↦ p.0 ∙ sym (ap (λ x. b == x) p.1 ∙ self b)
-      | inr p ↦ p.0 ∙ sym (differ b a (λ e. p.1 (sym e))) ]
+      | inl p ↦ p.0 ∙ sym (ap (λ x. b == x) p.1 ∙ self b)
+      | inr p ↦ p.0 ∙ sym (differ b a (λ e. p.1 (sym e)))
+    ]
 
 pub mask_same : (slot : ℕ) (pairs : List (ℕ × ℕ)) (k : ℕ) (d : ℕ × ℕ) (old : List ℕ) → k < length pairs → ((get_or pairs k d).0 ≡ slot → ⊥)
     → ((j : ℕ) → (has old j || has_pair slot j (drop k pairs)) ≡ has_pair slot j pairs)
@@ -142,25 +144,29 @@ masks_more size masks mask fits before slot = by (slice_get (masks ++ mask ∷ [
     by : (o : Option (Vec ℕ)) → slice_get (masks ++ mask ∷ []) slot ≡ o → IsMask size o
     by None e = tt
     by (Some v) e = elim (eqb_tells slot (length masks)) [
-        inl p ↦ (let same : mask ≡ v = (let w = sym (pushed_at masks mask slot p.1) ∙ e in cc) in ap (λ (x : Vec ℕ). length x.items) (sym same) ∙ fits)
-      | inr p ↦ subst (λ (o : Option (Vec ℕ)). IsMask size o) (pushed_before masks mask slot v p.1 e) (before slot) ]
+      | inl p ↦ (let same : mask ≡ v = (let w = sym (pushed_at masks mask slot p.1) ∙ e in cc) in ap (λ (x : Vec ℕ). length x.items) (sym same) ∙ fits)
+      | inr p ↦ subst (λ (o : Option (Vec ℕ)). IsMask size o) (pushed_before masks mask slot v p.1 e) (before slot)
+    ]
 
 pub takes_more : (pairs : List (ℕ × ℕ)) (masks : List (Vec ℕ)) (mask : Vec ℕ) (n : ℕ) → length masks ≡ n → ((j : ℕ) → has mask.items j ≡ has_pair n j pairs)
     → ((slot j : ℕ) → slot < n → has (mask_at masks slot) j ≡ has_pair slot j pairs) → (slot j : ℕ) → slot < n + 1 → has (mask_at (masks ++ mask ∷ []) slot) j ≡ has_pair slot j pairs
 takes_more pairs masks mask n count own before slot j low = elim (eqb_tells slot n) [
-    inl p ↦ ap (λ o. has (mask_words o) j) (pushed_at masks mask slot (p.1 ∙ sym count)) ∙ (own j ∙ ap (λ s. has_pair s j pairs) (sym p.1))
-  | inr p ↦ older p.1 ]
+  | inl p ↦ ap (λ o. has (mask_words o) j) (pushed_at masks mask slot (p.1 ∙ sym count)) ∙ (own j ∙ ap (λ s. has_pair s j pairs) (sym p.1))
+  | inr p ↦ older p.1
+]
   where
     older : (slot ≡ n → ⊥) → has (mask_at (masks ++ mask ∷ []) slot) j ≡ has_pair slot j pairs
     older apart = elim (slice_get_cases (masks ++ mask ∷ []) slot).1 [
-        inl p ↦ ap (λ o. has (mask_words o) j) (p.2 ∙ sym (pushed_before masks mask slot p.0 (λ e. apart (e ∙ count)) p.2)) ∙ before slot j (omega (arith, low, apart))
-      | inr q ↦ absurd (omega (arith, q.0, Rattle.std.proofs.lemmas.List.length-append masks (mask ∷ []), count, low)) ]
+      | inl p ↦ ap (λ o. has (mask_words o) j) (p.2 ∙ sym (pushed_before masks mask slot p.0 (λ e. apart (e ∙ count)) p.2)) ∙ before slot j (omega (arith, low, apart))
+      | inr q ↦ absurd (omega (arith, q.0, Rattle.std.proofs.lemmas.List.length-append masks (mask ∷ []), count, low))
+    ]
 
 pub takes_all : (pairs : List (ℕ × ℕ)) (masks : List (Vec ℕ)) (n : ℕ) → length masks ≡ n → ((slot j : ℕ) → n ≤ slot → has_pair slot j pairs ≡ false)
     → ((slot j : ℕ) → slot < n → has (mask_at masks slot) j ≡ has_pair slot j pairs) → (slot j : ℕ) → has (mask_at masks slot) j ≡ has_pair slot j pairs
 takes_all pairs masks n count past before slot j = elim (leb_tells (suc slot) n) [
-    inl p ↦ before slot j p.1
-  | inr p ↦ ap (λ o. has (mask_words o) j) (slice_get_past masks slot (omega (arith, p.1, count))) ∙ (has_nothing j ∙ sym (past slot j (omega (arith, p.1)))) ]
+  | inl p ↦ before slot j p.1
+  | inr p ↦ ap (λ o. has (mask_words o) j) (slice_get_past masks slot (omega (arith, p.1, count))) ∙ (has_nothing j ∙ sym (past slot j (omega (arith, p.1))))
+]
 
 -- a mask of zeros, before the first pair
 pub mask_begins : (size slot : ℕ) (pairs : List (ℕ × ℕ)) (words : List ℕ) → words ≡ replicate size 0 → (length words ≡ size) × ((j : ℕ) → (has words j || has_pair slot j (drop 0 pairs)) ≡ has_pair slot j pairs)

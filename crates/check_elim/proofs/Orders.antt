@@ -1,5 +1,5 @@
 -- The order of facts, and which of them an inequality implies as far as terms and constants go.
-use Rattle.std.proofs.Common.{◌≡◌, ◌⊎◌, inl, inr, ℕ, suc, ◌≤◌, ◌<◌, Bool, true, false, not, ◌&&◌, leb, nat_lt, List, [], ◌∷◌, ℤ, pos, negsuc, int_le, length, Option, Some, None, slice_index_or, slice_get, refl, sym, ap, ◌∙◌, arith}
+use Rattle.std.proofs.Common.{◌≡◌, inl, inr, ℕ, suc, ◌≤◌, ◌<◌, Bool, true, false, not, ◌&&◌, leb, nat_lt, List, [], ◌∷◌, ℤ, pos, negsuc, int_le, length, Some, slice_index_or, slice_get, refl, sym, ap, ◌∙◌, arith}
 use Rattle.std.specs.declared.cmp.Ordering.{Ordering}
 use Rattle.std.specs.declared.cmp.Ordering.TheVariants.{Less, Equal, Greater}
 use Rattle.std.specs.Ordering.{nat_cmp, int_cmp, ordering_then, ordering_reverse, is_lt, is_gt}
@@ -8,7 +8,7 @@ use Rattle.std.specs.List.{AllWithin}
 use Rattle.std.specs.List.Sorted.{IsPartitionedBy}
 use Rattle.std.proofs.lemmas.Cmp.{nat_cmp_total, int_cmp_total, on_total, then_total, lists_total, upto, ranked, int_ranked}
 use Rattle.std.proofs.lemmas.Bool.Decides.{leb_tells}
-use Rattle.std.proofs.lemmas.Option.{slice_get_cases, slice_get_past}
+use Rattle.std.proofs.lemmas.Option.{slice_get_cases}
 use Rattle.std.proofs.lemmas.Int.{ints}
 use Rattle.dep_expr.specs.Linear.{LinearForm}
 use Rattle.dep_expr.specs.declared.inequality.Ineq.{Ineq}
@@ -131,8 +131,9 @@ pub run_is : (list : List Ineq) (s : Ineq) (from to : ℕ) → to ≤ length lis
     → AllWithin (λ (y : Ineq). not (is_lt (form_cmp s.left y.left)) ≡ true) list 0 to → AllWithin (λ (y : Ineq). not (is_lt (form_cmp s.left y.left)) ≡ false) list to (length list)
     → (j : ℕ) → (leb from j && nat_lt j to) ≡ line_implies s (slice_get list j)
 run_is list s from to bound low high under over j = elim (slice_get_cases list j).1 [
-    inl p ↦ by p.0 p.1 p.2 p.3
-  | inr q ↦ ap (λ b. leb from j && b) (no_lt (elim (leb_tells (suc j) to) [ inl r ↦ absurd (omega (arith, r.1, q.0, bound)) | inr r ↦ r.0 ])) ∙ (and_false (leb from j) ∙ ap (line_implies s) (sym q.1)) ]
+  | inl p ↦ by p.0 p.1 p.2 p.3
+  | inr q ↦ ap (λ b. leb from j && b) (no_lt (elim (leb_tells (suc j) to) [ inl r ↦ absurd (omega (arith, r.1, q.0, bound)) | inr r ↦ r.0 ])) ∙ (and_false (leb from j) ∙ ap (line_implies s) (sym q.1))
+]
   where
     no_lt : {b : Bool} → b ≡ false → b ≡ false
     no_lt e = e
@@ -147,10 +148,12 @@ run_is list s from to bound low high under over j = elim (slice_get_cases list j
       where
         first : leb from j ≡ not (is_lt (terms_cmp x.left.terms s.left.terms))
         first = elim (leb_tells from j) [
-            inl p ↦ p.0 ∙ ap not (sym (ap (λ (y : Ineq). is_lt (terms_cmp y.left.terms s.left.terms)) (sym at) ∙ high j x p.1 within))
-          | inr p ↦ p.0 ∙ ap not (sym (ap (λ (y : Ineq). is_lt (terms_cmp y.left.terms s.left.terms)) (sym at) ∙ low j x (omega arith) p.1)) ]
+          | inl p ↦ p.0 ∙ ap not (sym (ap (λ (y : Ineq). is_lt (terms_cmp y.left.terms s.left.terms)) (sym at) ∙ high j x p.1 within))
+          | inr p ↦ p.0 ∙ ap not (sym (ap (λ (y : Ineq). is_lt (terms_cmp y.left.terms s.left.terms)) (sym at) ∙ low j x (omega arith) p.1))
+        ]
 
         second : nat_lt j to ≡ not (is_lt (form_cmp s.left x.left))
         second = elim (leb_tells (suc j) to) [
-            inl p ↦ p.0 ∙ sym (ap (λ (y : Ineq). not (is_lt (form_cmp s.left y.left))) (sym at) ∙ under j x (omega arith) p.1)
-          | inr p ↦ p.0 ∙ sym (ap (λ (y : Ineq). not (is_lt (form_cmp s.left y.left))) (sym at) ∙ over j x (omega (arith, p.1)) within) ]
+          | inl p ↦ p.0 ∙ sym (ap (λ (y : Ineq). not (is_lt (form_cmp s.left y.left))) (sym at) ∙ under j x (omega arith) p.1)
+          | inr p ↦ p.0 ∙ sym (ap (λ (y : Ineq). not (is_lt (form_cmp s.left y.left))) (sym at) ∙ over j x (omega (arith, p.1)) within)
+        ]

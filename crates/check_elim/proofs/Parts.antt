@@ -1,5 +1,5 @@
 -- What an `if`, a loop and a list of statements make of the lost facts and of the marks, from what their parts make.
-use Rattle.std.proofs.Common.{◌≡◌, ℕ, ◌+◌, ◌<◌, ◌≤◌, List, [], ◌∷◌, ◌++◌, length, drop, get_or, slice_get, slice_set, Some, sym, refl, ap, ◌∙◌, subst, arith, drop-cons, add-one}
+use Rattle.std.proofs.Common.{◌≡◌, ℕ, ◌+◌, ◌<◌, ◌≤◌, List, [], ◌∷◌, ◌++◌, length, drop, get_or, slice_get, slice_set, Some, sym, ap, ◌∙◌, subst, arith, drop-cons, add-one}
 use Rattle.std.proofs.lemmas.List.{length-append}
 use Rattle.std.proofs.Math.ListN.{drop_of_length-le}
 use Rattle.std.proofs.lemmas.Option.{get_or_from_slice_get}
@@ -9,11 +9,11 @@ use Rattle.checked_tree.specs.declared.statements.CheckedStmt.TheVariants as V
 use Rattle.checked_tree.specs.declared.units.CheckedFn.{CheckedFn}
 use Rattle.check_elim.specs.declared.lost.Lost.{Lost}
 use Rattle.check_elim.specs.declared.table.Table.{Table}
-use Rattle.check_elim.specs.Direct.{Reading, Passing, reading, passing, passings, act_of, backs, back, behind, noted, through, telling, holds_of, fails_of, asked_of}
+use Rattle.check_elim.specs.Direct.{Reading, reading, passing, passings, act_of, back, behind, noted, through, telling, holds_of, fails_of, asked_of}
 use Rattle.check_elim.specs.Sets.{Facts, Marking, facts, size_of, ops_of, either_all, guard_all, all_sure}
 use Rattle.check_elim.specs.Rounds.{Grows, Stand}
 use Rattle.check_elim.proofs.Forms.{if_form, while_form}
-use Rattle.check_elim.proofs.Looping.{rounds_in, rounds_of, if_rounds, while_rounds, next_rounds, grows_nothing, grows_then, grows_loop, grown_past, stand_left, stand_right, stand_first, stand_rest, stand_within}
+use Rattle.check_elim.proofs.Looping.{rounds_in, rounds_of, if_rounds, while_rounds, next_rounds, grows_then, grows_loop, grown_past, stand_left, stand_right, stand_first, stand_rest, stand_within}
 
 -- the place of a loop's round is one of the list that its body's rounds have grown
 pub grown_place : (size : ℕ) (bs : List Facts) (place : ℕ) (x w y : List Lost) (empty : Lost) → place ≡ length x → w ≡ x ++ empty ∷ [] → Grows size bs w y → place < length y
@@ -45,8 +45,8 @@ module _ (f : CheckedFn) (t : Table) where
   if_facts st line e a b old tested other first second joined is h1 h2 h3 h4 h5 =
       h5
       ∙ (ap (λ x. either_all x second) (h3 ∙ ap (go a) h1)
-        ∙ (ap (λ x. either_all (go a (holds_of (read e) old)) x) (h4 ∙ ap (go b) h2)
-          ∙ sym (ap (λ p. behind (act_of p) old) (ap (passing (ops_of f t) f.slots) is ∙ if_form (ops_of f t) f.slots line e a b))))
+      ∙ (ap (λ x. either_all (go a (holds_of (read e) old)) x) (h4 ∙ ap (go b) h2)
+      ∙ sym (ap (λ p. behind (act_of p) old) (ap (passing (ops_of f t) f.slots) is ∙ if_form (ops_of f t) f.slots line e a b))))
 
   pub if_marks : (st : CheckedStmt) (line : ℕ) (e : CheckedExpr) (a b : List CheckedStmt) (old tested other : Facts) (m0 m1 m2 m3 : Marking)
       → st ≡ V.If line e a b → tested ≡ holds_of (read e) old → other ≡ fails_of (read e) old → m1 ≡ asked_of (read e) old m0 → m2 ≡ tell a tested m1 → m3 ≡ tell b other m2
@@ -54,8 +54,8 @@ module _ (f : CheckedFn) (t : Table) where
   if_marks st line e a b old tested other m0 m1 m2 m3 is h1 h2 h3 h4 h5 =
       h5
       ∙ (ap (λ x. tell b x m2) h2
-        ∙ (ap (tell b (fails_of (read e) old)) (h4 ∙ (ap (λ x. tell a x m1) h1 ∙ ap (tell a (holds_of (read e) old)) h3))
-          ∙ sym (ap (λ p. noted (act_of p) old m0) (ap (passing (ops_of f t) f.slots) is ∙ if_form (ops_of f t) f.slots line e a b))))
+      ∙ (ap (tell b (fails_of (read e) old)) (h4 ∙ (ap (λ x. tell a x m1) h1 ∙ ap (tell a (holds_of (read e) old)) h3))
+      ∙ sym (ap (λ p. noted (act_of p) old m0) (ap (passing (ops_of f t) f.slots) is ∙ if_form (ops_of f t) f.slots line e a b))))
 
   pub if_grows : (st : CheckedStmt) (line : ℕ) (e : CheckedExpr) (a b : List CheckedStmt) (size : ℕ) (x y z : List Lost)
       → st ≡ V.If line e a b → Grows size (rounds_of f t a) x y → Grows size (rounds_of f t b) y z → Grows size (rounds_in f t st) x z
@@ -71,7 +71,7 @@ module _ (f : CheckedFn) (t : Table) where
   while_facts st line e b old round entered left is h1 h2 h3 =
       h3
       ∙ (ap (fails_of (read e)) (h2 ∙ ap (λ r. either_all old (guard_all old r)) h1)
-        ∙ sym (ap (λ p. behind (act_of p) old) (ap (passing (ops_of f t) f.slots) is ∙ while_form (ops_of f t) f.slots line e b)))
+      ∙ sym (ap (λ p. behind (act_of p) old) (ap (passing (ops_of f t) f.slots) is ∙ while_form (ops_of f t) f.slots line e b)))
 
   pub while_marks : (st : CheckedStmt) (line : ℕ) (e : CheckedExpr) (b : List CheckedStmt) (old round entered tested : Facts) (m0 m1 m2 : Marking)
       → st ≡ V.While line e b → round ≡ round_of e b → entered ≡ either_all old (guard_all old round) → tested ≡ holds_of (read e) entered → m1 ≡ asked_of (read e) entered m0 → m2 ≡ tell b tested m1
@@ -80,8 +80,8 @@ module _ (f : CheckedFn) (t : Table) where
       let came = h2 ∙ ap (λ r. either_all old (guard_all old r)) h1 in
       h5
       ∙ (ap (λ x. tell b x m1) (h3 ∙ ap (holds_of (read e)) came)
-        ∙ (ap (tell b (holds_of (read e) (either_all old (guard_all old (round_of e b))))) (h4 ∙ ap (λ x. asked_of (read e) x m0) came)
-          ∙ sym (ap (λ p. noted (act_of p) old m0) (ap (passing (ops_of f t) f.slots) is ∙ while_form (ops_of f t) f.slots line e b))))
+      ∙ (ap (tell b (holds_of (read e) (either_all old (guard_all old (round_of e b))))) (h4 ∙ ap (λ x. asked_of (read e) x m0) came)
+      ∙ sym (ap (λ p. noted (act_of p) old m0) (ap (passing (ops_of f t) f.slots) is ∙ while_form (ops_of f t) f.slots line e b))))
 
   pub while_grows : (st : CheckedStmt) (line : ℕ) (e : CheckedExpr) (b : List CheckedStmt) (size place : ℕ) (x w y z : List Lost) (empty round : Lost)
       → st ≡ V.While line e b → place ≡ length x → w ≡ x ++ empty ∷ [] → Grows size (rounds_of f t b) w y → z ≡ slice_set y place round → size_of round ≡ size → facts round ≡ round_of e b

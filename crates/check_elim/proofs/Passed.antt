@@ -1,5 +1,5 @@
 -- What a statement makes of a way is what its flow and its parts make of it.
-use Rattle.std.proofs.Common.{◌≡◌, ℕ, ◌+◌, Bool, true, false, List, [], ◌∷◌, map, Option, Some, None, refl, sym, ap, ◌∙◌, subst}
+use Rattle.std.proofs.Common.{◌≡◌, ℕ, ◌+◌, true, false, List, [], ◌∷◌, map, Option, Some, None, refl, sym, ap, ◌∙◌, subst}
 use Rattle.checked_tree.specs.declared.expressions.CheckedExpr.{CheckedExpr}
 use Rattle.checked_tree.specs.declared.statements.Argument.{Argument}
 use Rattle.checked_tree.specs.declared.statements.PointerOperand.{PointerOperand}
@@ -7,14 +7,14 @@ use Rattle.checked_tree.specs.declared.statements.CheckedStmt.{CheckedStmt, map-
 use Rattle.checked_tree.specs.declared.statements.CheckedStmt.TheOpen as S
 use Rattle.checked_tree.specs.declared.statements.CheckedStmt.TheFolds.{fold-roll-CheckedStmt, ind-CheckedStmt}
 use Rattle.checked_tree.specs.declared.units.CheckedFn.{CheckedFn}
-use Rattle.checked_tree.specs.Flow.{Event, Tests, Assigns, Flow, Leaves, Ends, Meets, as_value, as_test, checked, seen, own_flow, value_flow, arguments_flow, operand_flow, argument_flow, target_slots}
+use Rattle.checked_tree.specs.Flow.{Event, Assigns, Flow, Leaves, Ends, Meets, as_test, checked, seen, value_flow, arguments_flow, operand_flow, argument_flow, target_slots}
 use Rattle.check_elim.specs.Ways as W
 use Rattle.check_elim.specs.Ways.{Effect, Way, Nowhere, Sure, either, after, reached, exits, comes}
 use Rattle.check_elim.specs.Direct as D
 use Rattle.check_elim.specs.Direct.{Act, behind, noted, idle, and_then, tests, assigns, leaves, Reading, reading, holds_of, fails_of, asked_of, value_act, arguments_act, operand_act, argument_act, act_of}
 use Rattle.check_elim.specs.One.{one_of}
 use Rattle.check_elim.proofs.Laws.{either_assoc}
-use Rattle.check_elim.proofs.Carrying.{Carries, IsRead, expr_read, checks_carry, nothing, joined, either_comm}
+use Rattle.check_elim.proofs.Carrying.{Carries, expr_read, checks_carry, nothing, joined, either_comm}
 
 pub right_nowhere : (a : Way) → either a Nowhere ≡ a
 right_nowhere a = either_comm a Nowhere
@@ -107,7 +107,7 @@ module _ (f : CheckedFn) (does : Event → Effect) (id : ℕ) where
 
   form_passed : (x : S.CheckedStmt-F PassedStmt)
       → IsPassed (D.pass_level ops f.slots (map-CheckedStmt PassedStmt (D.Passing Way Way) (λ k. D.passing ops f.slots k.0) x))
-        (W.stmt_level f does id (map-CheckedStmt PassedStmt W.Passing (λ k. W.passing f does id k.0) x))
+      (W.stmt_level f does id (map-CheckedStmt PassedStmt W.Passing (λ k. W.passing f does id k.0) x))
   form_passed (S.Empty line) = left_behind (λ k. k) idle (nothing does id)
   form_passed (S.Assign line slot scalar value checks) =
       left_behind (λ k. value_flow f value (checked checks (Meets (Assigns (slot ∷ [])) k)))

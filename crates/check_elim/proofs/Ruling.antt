@@ -1,13 +1,13 @@
 -- What the marks of both analyses say of a check.
-use Rattle.std.proofs.Common.{◌≡◌, ◌≢◌, ◌⊎◌, ℕ, zero, suc, ◌+◌, ◌-◌, ◌*◌, ◌<◌, ◌≤◌, ◌==◌, Bool, true, false, not, ◌&&◌, ◌||◌, nat_lt, nat_eq, if◌then◌else◌, List, [], ◌∷◌, ◌++◌, length, map, Option, Some, None, slice_get, get_or, take, inl, inr, refl, sym, ap, ◌∙◌, subst, arith}
+use Rattle.std.proofs.Common.{◌≡◌, ◌≢◌, ◌⊎◌, ℕ, ◌+◌, ◌-◌, ◌*◌, ◌<◌, ◌≤◌, ◌==◌, Bool, true, false, not, ◌&&◌, ◌||◌, nat_eq, if◌then◌else◌, List, [], ◌∷◌, ◌++◌, length, map, Option, Some, None, slice_get, get_or, take, inl, inr, refl, sym, ap, ◌∙◌, subst, arith}
 use Rattle.std.specs.Prelude.{replicate, ◌↔◌, Result, Ok, Err, IfOk}
 use Rattle.std.specs.Global.{Vec}
 use Rattle.std.specs.Option.{is_some}
 use Rattle.std.specs.List.{list_any, list_all, flat_map}
-use Rattle.std.proofs.lemmas.Bool.Decides.{eqb_tells, leb_tells}
+use Rattle.std.proofs.lemmas.Bool.Decides.{eqb_tells}
 use Rattle.std.proofs.lemmas.List.{get_or-replicate, length-replicate, get_or_append_left, append-nil, take_more, take_all}
 use Rattle.std.proofs.lemmas.List.Concat.{flat_map-append}
-use Rattle.std.proofs.lemmas.Option.{slice_get_cases, slice_get_past, slice_get_within, slice_get_read, get_or_from_slice_get}
+use Rattle.std.proofs.lemmas.Option.{slice_get_cases, slice_get_within, slice_get_read, get_or_from_slice_get}
 use Rattle.dep_expr.specs.declared.inequality.Ineq.{Ineq}
 use Rattle.checked_tree.specs.declared.checks.Check.{Check}
 use Rattle.checked_tree.specs.declared.expressions.CheckedExpr.{CheckedExpr}
@@ -18,7 +18,7 @@ use Rattle.checked_tree.specs.declared.statements.CheckedStmt.TheFolds.{fold_out
 use Rattle.checked_tree.specs.declared.units.CheckedFn.{CheckedFn}
 use Rattle.checked_tree.specs.Eval.{check_of}
 use Rattle.checked_tree.specs.Flow.{Event, Tests, Assigns, Finds, Passes, Flow, Leaves, as_test, seen, own_flow}
-use Rattle.checked_tree.specs.Redundant.{cond_inequality, check_inequality, flows_level, flows_of, is_over_locals, is_constant, Redundant}
+use Rattle.checked_tree.specs.Redundant.{cond_inequality, check_inequality, flows_level, flows_of, is_constant, Redundant}
 use Rattle.check_elim.specs.declared.table.Table.{Table}
 use Rattle.check_elim.specs.declared.table.Table.TheVariants as table
 use Rattle.check_elim.specs.declared.table.Inequalities.{Inequalities}
@@ -27,9 +27,9 @@ use Rattle.check_elim.specs.Ways.{Effect, Gives, Keeps, Way, Lost, comes, comes_
 use Rattle.check_elim.specs.Ways as W
 use Rattle.check_elim.specs.Equal.{equal_effect}
 use Rattle.check_elim.specs.Facts.{effect_of, is_lost, is_met_before}
-use Rattle.check_elim.specs.Redundancy.{same_check, is_same, equals, follows_equal, follows_inequality, redundant, redundant_at}
+use Rattle.check_elim.specs.Redundancy.{is_same, equals, follows_equal, follows_inequality, redundant, redundant_at}
 use Rattle.check_elim.specs.Direct.{passing, passings, telling, noted, act_of, reading, asked_of}
-use Rattle.check_elim.specs.Sets.{Facts, Marking, way_of, does, given, is_number, meets_class, class_of, effect_in, own_in, own_at, own_fact, IsOwn, ops_of, all_lost, AreInequalities, AreClasses, IsTable, size_in}
+use Rattle.check_elim.specs.Sets.{Facts, Marking, way_of, does, given, is_number, class_of, effect_in, own_in, own_at, own_fact, IsOwn, ops_of, all_lost, AreInequalities, AreClasses, IsTable, size_in}
 use Rattle.check_elim.specs.Following.{Follows, is_plain, IsOfClasses, IsOfInequalities, is_lost_in, flows_in, flows_of_all}
 use Rattle.check_elim.specs.Marks.{SayUnmet, SayUnequal}
 use Rattle.check_elim.proofs.Lists.{room, marks}
@@ -72,8 +72,8 @@ module _ (f : CheckedFn) (t : Inequalities) (is : AreInequalities f t) (id : ℕ
   unfolding AreInequalities is_met_before does
   third_own i j own low same =
       let exact = marks_exact f (table.Inequalities t) id j (length f.checks) (effect_of f i) (λ e. ap (λ o. effect_in f o e) same) own numbered (slice_get_within f.checks (id - 1) c there)
-          (all_lost t.size) (marks (replicate (length f.checks) false)) (lost_there t.size j (omega (arith, low, is.room))) (length-replicate (length f.checks) false)
-          (get_or-replicate (length f.checks) (id - 1) false false (slice_get_within f.checks (id - 1) c there)) in
+      (all_lost t.size) (marks (replicate (length f.checks) false)) (lost_there t.size j (omega (arith, low, is.room))) (length-replicate (length f.checks) false)
+      (get_or-replicate (length f.checks) (id - 1) false false (slice_get_within f.checks (id - 1) c there)) in
       ap not exact ∙ ap (λ b. b && not (is_lost (comes_in f (effect_of f i) id))) (sym (is.over j i same))
 
   pub third : Says (cond_inequality c.cond) (own_in t id)
@@ -96,8 +96,9 @@ module _ (f : CheckedFn) (t : Classes) (are : AreClasses f t) where
   has_class id c numbered at =
       let low = slice_get_within f.checks (id - 1) c (sym (check_at f id numbered) ∙ at) in
       elim (slice_get_cases t.numbers.items (id - 1)).1 [
-        inl p ↦ (p.0, class_at id numbered ∙ p.2, are.fits (id - 1) p.0 p.2, p.2)
-      | inr q ↦ absurd (omega (arith, q.0, low, are.count)) ]
+        | inl p ↦ (p.0, class_at id numbered ∙ p.2, are.fits (id - 1) p.0 p.2, p.2)
+        | inr q ↦ absurd (omega (arith, q.0, low, are.count))
+      ]
 
   meets_same : (id : ℕ) (c : Check) (j : ℕ) → 1 ≤ id → check_of f id ≡ Some c → slice_get t.numbers.items (id - 1) ≡ Some j → (k : ℕ) → is_number j (class_of t k) ≡ is_same c (check_of f k)
   unfolding AreClasses
@@ -110,9 +111,13 @@ module _ (f : CheckedFn) (t : Classes) (are : AreClasses f t) where
       both None None g h = refl
       both (Some l) (Some d) g h = are.same (k - 1) (id - 1) l j d c h own g class
       both None (Some d) g h = elim (slice_get_cases t.numbers.items (k - 1)).1 [
-          inl p ↦ absurd (let w = sym p.2 ∙ g in cc) | inr q ↦ absurd (omega (arith, q.0, are.count, slice_get_within f.checks (k - 1) d h)) ]
+        | inl p ↦ absurd (let w = sym p.2 ∙ g in cc)
+        | inr q ↦ absurd (omega (arith, q.0, are.count, slice_get_within f.checks (k - 1) d h))
+      ]
       both (Some l) None g h = elim (slice_get_cases f.checks (k - 1)).1 [
-          inl p ↦ absurd (let w = sym p.2 ∙ h in cc) | inr q ↦ absurd (omega (arith, q.0, are.count, slice_get_within t.numbers.items (k - 1) l g)) ]
+        | inl p ↦ absurd (let w = sym p.2 ∙ h in cc)
+        | inr q ↦ absurd (omega (arith, q.0, are.count, slice_get_within t.numbers.items (k - 1) l g))
+      ]
 
       by : ((nat_eq k 0 ≡ true) × (k ≡ 0)) ⊎ ((nat_eq k 0 ≡ false) × (k ≢ 0)) → is_number j (class_of t k) ≡ is_same c (check_of f k)
       by (inl p) = rw p.1 refl
@@ -143,23 +148,25 @@ module _ (f : CheckedFn) (t : Classes) (are : AreClasses f t) where
 
   pub alone_follows : (st : CheckedStmt) (flow : Flow) (m : Marking) → flows_in f st ≡ flow ∷ [] → Alone st flow → Follows f (flows_in f st) m (noted (act_of (passing ops f.slots st)) (all_lost t.size) m)
   unfolding Follows
-  alone_follows st flow m flows alone =
-      ( size_kept st m
-      , λ id c numbered low at.
-          let k = has_class id c numbered at in
-          let q = statement_exact f (table.Classes t) id k.0 m.size (equal_effect (equals f c)) (effect_same id c k.0 numbered at k.3) k.1 numbered low st (all_lost t.size) m (lost_there t.size k.0 k.2) refl in
-          q.1 ∙ ap (λ b. m.at (id - 1) || b) (ap is_lost (alone (equal_effect (equals f c)) id)
-          ∙ (sym (or_false (is_lost (comes (equal_effect (equals f c)) id flow Lost))) ∙ ap (λ (l : List Flow). is_lost_in f id c l) (sym flows))) )
+  alone_follows st flow m flows alone = (
+    size_kept st m,
+    λ id c numbered low at.
+        let k = has_class id c numbered at in
+        let q = statement_exact f (table.Classes t) id k.0 m.size (equal_effect (equals f c)) (effect_same id c k.0 numbered at k.3) k.1 numbered low st (all_lost t.size) m (lost_there t.size k.0 k.2) refl in
+        q.1 ∙ ap (λ b. m.at (id - 1) || b) (ap is_lost (alone (equal_effect (equals f c)) id)
+        ∙ (sym (or_false (is_lost (comes (equal_effect (equals f c)) id flow Lost))) ∙ ap (λ (l : List Flow). is_lost_in f id c l) (sym flows))),
+  )
 
   pub test_follows : (e : CheckedExpr) (m : Marking)
       → Follows f (as_test (seen f.slots e) (Leaves true) (Leaves false) ∷ []) m (asked_of (reading ops f.slots e) (all_lost t.size) m)
   unfolding Follows
-  test_follows e m =
-      ( test_size f (table.Classes t) e (all_lost t.size) m
-      , λ id c numbered low at.
-          let k = has_class id c numbered at in
-          let q = test_exact f (table.Classes t) id k.0 m.size (equal_effect (equals f c)) (effect_same id c k.0 numbered at k.3) k.1 numbered low e (all_lost t.size) m (lost_there t.size k.0 k.2) refl in
-          q.1 ∙ ap (λ b. m.at (id - 1) || b) (sym (or_false (is_lost (comes (equal_effect (equals f c)) id (as_test (seen f.slots e) (Leaves true) (Leaves false)) Lost)))) )
+  test_follows e m = (
+    test_size f (table.Classes t) e (all_lost t.size) m,
+    λ id c numbered low at.
+        let k = has_class id c numbered at in
+        let q = test_exact f (table.Classes t) id k.0 m.size (equal_effect (equals f c)) (effect_same id c k.0 numbered at k.3) k.1 numbered low e (all_lost t.size) m (lost_there t.size k.0 k.2) refl in
+        q.1 ∙ ap (λ b. m.at (id - 1) || b) (sym (or_false (is_lost (comes (equal_effect (equals f c)) id (as_test (seen f.slots e) (Leaves true) (Leaves false)) Lost)))),
+  )
 
 -- ---- one after another
 pub follows_none : (f : CheckedFn) (m : Marking) → Follows f [] m m
@@ -172,13 +179,14 @@ follows_none f m = (refl, λ id c numbered low at. sym (by (m.at (id - 1))))
 
 pub follows_then : (f : CheckedFn) (xs ys : List Flow) (m n o : Marking) → Follows f xs m n → Follows f ys n o → Follows f (xs ++ ys) m o
 unfolding Follows
-follows_then f xs ys m n o g h =
-    ( h.0 ∙ g.0
-    , λ id c numbered low at.
-        h.1 id c numbered (subst (λ (x : ℕ). id - 1 < x) (sym g.0) low) at
-        ∙ (ap (λ b. b || is_lost_in f id c ys) (g.1 id c numbered low at)
-        ∙ (or_assoc (m.at (id - 1)) (is_lost_in f id c xs) (is_lost_in f id c ys)
-        ∙ ap (λ b. m.at (id - 1) || b) (sym (any_append (λ flow. is_lost (comes (equal_effect (equals f c)) id flow Lost)) xs ys)))) )
+follows_then f xs ys m n o g h = (
+  h.0 ∙ g.0,
+  λ id c numbered low at.
+      h.1 id c numbered (subst (λ (x : ℕ). id - 1 < x) (sym g.0) low) at
+      ∙ (ap (λ b. b || is_lost_in f id c ys) (g.1 id c numbered low at)
+      ∙ (or_assoc (m.at (id - 1)) (is_lost_in f id c xs) (is_lost_in f id c ys)
+      ∙ ap (λ b. m.at (id - 1) || b) (sym (any_append (λ flow. is_lost (comes (equal_effect (equals f c)) id flow Lost)) xs ys)))),
+)
   where
     or_assoc : (a b c : Bool) → ((a || b) || c) ≡ (a || (b || c))
     or_assoc true b c = refl
@@ -281,9 +289,10 @@ unfolding IsTable IsOfInequalities
 third_marks f (table.Classes t) w old new is of lost unmarked told = absurd of
 third_marks f (table.Inequalities t) w old new is of lost unmarked told =
     let made : marks new ≡ telling (passings (ops_of f (table.Inequalities t)) f.slots f.body) (all_lost t.size) (marks (replicate (length f.checks) false)) =
-        told ∙ (λ i. telling (passings (ops_of f (table.Inequalities t)) f.slots f.body) (lost i) (marks (unmarked i))) in
-    ( ap (λ (m : Marking). m.size) made ∙ (telling_size f (table.Inequalities t) f.body (all_lost t.size) (marks (replicate (length f.checks) false)) ∙ length-replicate (length f.checks) false)
-    , λ id c numbered at. ap (λ (m : Marking). is_some (own_in t id) && not (m.at (id - 1))) made ∙ third f t is id c numbered at )
+    told ∙ (λ i. telling (passings (ops_of f (table.Inequalities t)) f.slots f.body) (lost i) (marks (unmarked i))) in (
+      ap (λ (m : Marking). m.size) made ∙ (telling_size f (table.Inequalities t) f.body (all_lost t.size) (marks (replicate (length f.checks) false)) ∙ length-replicate (length f.checks) false),
+      λ id c numbered at. ap (λ (m : Marking). is_some (own_in t id) && not (m.at (id - 1))) made ∙ third f t is id c numbered at,
+    )
 
 pub second_marks : (f : CheckedFn) (old new : List Bool) → old ≡ replicate (length f.checks) false → Follows f (flows_of_all f f.body) (marks old) (marks new)
     → (length new ≡ length f.checks) × ((id : ℕ) (c : Check) → 1 ≤ id → check_of f id ≡ Some c → get_or new (id - 1) false ≡ not (follows_equal f id c))
@@ -320,13 +329,14 @@ kept_here f t unmet unequal place x u m o b inside third second read unequal_is 
     let d = unmet_is ∙ sym (ap (λ n. get_or unmet n false) back) in
     is
     ∙ kept_is f (place + 1) x u (o && not m) at (e ∙ second (place + 1) x (omega arith) at)
-      ((λ i. own_is i && not (d i)) ∙ third (place + 1) x (omega arith) at)
+    ((λ i. own_is i && not (d i)) ∙ third (place + 1) x (omega arith) at)
 
 pub kept_more : (f : CheckedFn) (xs : List Bool) (k : ℕ) (b : Bool) → length xs ≡ k → b ≡ not (redundant f (k + 1))
     → ((id : ℕ) → 1 ≤ id → id ≤ k → get_or xs (id - 1) true ≡ not (redundant f id)) → (id : ℕ) → 1 ≤ id → id ≤ k + 1 → get_or (xs ++ b ∷ []) (id - 1) true ≡ not (redundant f id)
 kept_more f xs k b count now before id low high = elim (eqb_tells id (k + 1)) [
-    inl p ↦ get_or_from_slice_get (xs ++ b ∷ []) (id - 1) b true (pushed_at xs b (id - 1) (omega (arith, p.1, count))) ∙ (now ∙ ap (λ n. not (redundant f n)) (sym p.1))
-  | inr p ↦ older p.1 ]
+  | inl p ↦ get_or_from_slice_get (xs ++ b ∷ []) (id - 1) b true (pushed_at xs b (id - 1) (omega (arith, p.1, count))) ∙ (now ∙ ap (λ n. not (redundant f n)) (sym p.1))
+  | inr p ↦ older p.1
+]
   where
     older : (id ≡ k + 1 → ⊥) → get_or (xs ++ b ∷ []) (id - 1) true ≡ not (redundant f id)
     older apart =

@@ -9,7 +9,6 @@ use Rattle.std.specs.List.Sorted.{IsPartitionedBy}
 use Rattle.std.proofs.lemmas.List.Sorted.{ranks_by}
 use Rattle.std.proofs.lemmas.List.Sums.{position_or_len_is}
 use Rattle.std.proofs.lemmas.Bool.Decides.{leb_tells}
-use Rattle.std.proofs.lemmas.Option.{slice_get_cases}
 
 module _ {X K : Type 0} (key : X → K) {R : K → K → Ordering} (o : IsTotalOrder R) (equal : (a b : K) → R a b ≡ Equal → a ≡ b) where
   abbrev pub Sorted : List X → Type 0

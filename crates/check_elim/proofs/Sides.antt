@@ -1,8 +1,8 @@
 -- The forms of comparisons as the code builds them, and how light they are.
 use Rattle.std.proofs.Common.{◌≡◌, ℕ, suc, ◌+◌, ◌<◌, ◌^◌, Bool, true, false, List, [], ◌∷◌, ◌++◌, length, drop, get_or, drop-cons, add-one, append_assoc, ℤ, pos, negsuc, Option, Some, None, refl, sym, ap, ◌∙◌, subst, arith, unsigned_abs}
-use Rattle.std.specs.Prelude.{◌+ℤ◌, ◌*ℤ◌, ◌-ℤ◌, neg_ℤ, ◌≤ℤ◌, ◌≤◌}
+use Rattle.std.specs.Prelude.{◌+ℤ◌, ◌*ℤ◌, neg_ℤ, ◌≤ℤ◌, ◌≤◌}
 use Rattle.std.proofs.lemmas.Int.{ints}
-use Rattle.dep_expr.specs.Linear.{LinearForm, IsSmall, plus, scaled, number_form, term_form}
+use Rattle.dep_expr.specs.Linear.{LinearForm, IsSmall, plus, term_form}
 use Rattle.dep_expr.specs.Merged.{merged}
 use Rattle.dep_expr.specs.Normed.{normed}
 use Rattle.dep_expr.specs.declared.inequality.Ineq.{Ineq}
@@ -12,7 +12,7 @@ use Rattle.checked_tree.specs.declared.units.CheckedFn.{CheckedFn}
 use Rattle.checked_tree.specs.Redundant.{atom_of_slot, cons_term, terms_over_atoms, fact_over_atoms, comparable}
 use Rattle.std.specs.Prelude.{option_map}
 use Rattle.check_elim.specs.Sides.{form_of, difference_of, strict_constant}
-use Rattle.check_elim.specs.Light.{IsLight, LightForm, renamed_form}
+use Rattle.check_elim.specs.Light.{IsLight, renamed_form}
 
 -- the weight over atoms is that over slots
 pub weight_renamed : (f : CheckedFn) (ts us : List (ℤ × ℕ)) → terms_over_atoms f ts ≡ Some us → weight us ≡ weight ts

@@ -1,8 +1,7 @@
 -- Where no check is noted, nothing changes.
-use Rattle.std.proofs.Common.{◌≡◌, ℕ, List, [], ◌∷◌, map, Option, Some, None, refl, sym, ap, ◌∙◌, subst}
+use Rattle.std.proofs.Common.{◌≡◌, ℕ, List, refl, ap, ◌∙◌}
 use Rattle.checked_tree.specs.declared.shapes.Shape.{Shape}
 use Rattle.checked_tree.specs.declared.statements.CheckedStmt.{CheckedStmt}
-use Rattle.checked_tree.specs.Flow.{Event}
 use Rattle.check_elim.specs.Direct.{Ops, passings, telling}
 use Rattle.check_elim.proofs.Alike.{GoAlike, all_alike}
 

@@ -2,9 +2,7 @@
 --
 -- It is generic in what is known at a place (A), and in what is noted of checks on the way (M).
 use Rattle.std.specs.Prelude.{ℕ, Bool, true, false, List, [], ◌∷◌, ◌++◌, map, Option, Some, None, ◌+◌}
-use Rattle.std.specs.List.{flat_map}
 use Rattle.dep_expr.specs.Linear.{LinearForm}
-use Rattle.checked_tree.specs.declared.shapes.Scalar.{Scalar}
 use Rattle.checked_tree.specs.declared.shapes.Shape.{Shape}
 use Rattle.checked_tree.specs.declared.expressions.CheckedExpr.{CheckedExpr}
 use Rattle.checked_tree.specs.declared.expressions.CheckedExpr.TheOpen as E

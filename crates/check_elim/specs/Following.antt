@@ -1,5 +1,5 @@
 -- Second rule: what is marked of a function's checks where each statement begins with no equal check.
-use Rattle.std.specs.Prelude.{ℕ, ◌≡◌, ◌-◌, ◌<◌, ◌≤◌, ◌||◌, Bool, true, false, List, map, Option, Some}
+use Rattle.std.specs.Prelude.{ℕ, ◌≡◌, ◌-◌, ◌<◌, ◌≤◌, ◌||◌, Bool, true, false, List, Some}
 use Rattle.std.specs.List.{list_any, flat_map}
 use Rattle.checked_tree.specs.declared.checks.Check.{Check}
 use Rattle.checked_tree.specs.declared.expressions.CheckedExpr.{CheckedExpr}
@@ -12,7 +12,7 @@ use Rattle.checked_tree.specs.Flow.{Flow, Leaves, as_test, seen}
 use Rattle.checked_tree.specs.Redundant.{flows_level}
 use Rattle.check_elim.specs.declared.table.Table.{Table}
 use Rattle.check_elim.specs.declared.table.Table.TheVariants as table
-use Rattle.check_elim.specs.Ways.{Way, Lost, comes}
+use Rattle.check_elim.specs.Ways.{Lost, comes}
 use Rattle.check_elim.specs.Equal.{equal_effect}
 use Rattle.check_elim.specs.Facts.{is_lost}
 use Rattle.check_elim.specs.Redundancy.{equals}

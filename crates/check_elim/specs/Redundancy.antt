@@ -1,5 +1,5 @@
 -- Which checks are redundant, as a test that computes.
-use Rattle.std.specs.Prelude.{ℕ, ◌==◌, Bool, true, false, not, ◌&&◌, ◌||◌, Option, Some, None, List}
+use Rattle.std.specs.Prelude.{ℕ, ◌==◌, Bool, true, false, not, ◌&&◌, ◌||◌, Option, Some, None}
 use Rattle.std.specs.List.{list_all}
 use Rattle.std.specs.Ordering.{int_eq}
 use Rattle.dep_expr.specs.Linear.{LinearForm}
@@ -11,9 +11,9 @@ use Rattle.checked_tree.specs.declared.checks.Cond.{Cond}
 use Rattle.checked_tree.specs.declared.checks.Cond.TheVariants.{Le, Aligned, NonZero, Equal, Term, Kept}
 use Rattle.checked_tree.specs.declared.units.CheckedFn.{CheckedFn}
 use Rattle.checked_tree.specs.Eval.{check_of}
-use Rattle.checked_tree.specs.Flow.{Event, Tests, Flow}
+use Rattle.checked_tree.specs.Flow.{Event, Tests}
 use Rattle.checked_tree.specs.Redundant.{is_constant, flows_of, cond_inequality}
-use Rattle.check_elim.specs.Ways.{Way, Lost, comes}
+use Rattle.check_elim.specs.Ways.{Lost, comes}
 use Rattle.check_elim.specs.Equal.{equal_effect}
 use Rattle.check_elim.specs.Facts.{same_form, is_lost, is_met_before}
 

@@ -1,5 +1,5 @@
 -- The sides of comparisons as the code has them.
-use Rattle.std.specs.Prelude.{ℕ, ℤ, pos, ◌+ℤ◌, int_le, Bool, true, false, List, [], ◌∷◌, Option, Some, None}
+use Rattle.std.specs.Prelude.{ℕ, ℤ, pos, ◌+ℤ◌, int_le, Bool, true, false, Option, Some, None}
 use Rattle.dep_expr.specs.Linear.{LinearForm, number_form, term_form}
 use Rattle.checked_tree.specs.Flow as flow
 use Rattle.check_elim.specs.declared.edges.Side.{Side}

@@ -164,7 +164,11 @@ fn class_among(codes: &[Vec<i128>], code: &[i128]) -> usize
 }
 
 /// The class of each check among codes in order. The only refusal is want of memory.
-fn numbers_of(alloc: Global, checks: &[Check], codes: &[Vec<i128>]) -> Result<Vec<usize>, AllocError>
+fn numbers_of(
+    alloc: Global,
+    checks: &[Check],
+    codes: &[Vec<i128>],
+) -> Result<Vec<usize>, AllocError>
     requires { AreCodesSorted codes.now }
     ensures { IfOk result (λ numbers. numbers.items ≡ map (λ c. class_among codes.now (check_code c)) checks.now) }
 {
@@ -184,5 +188,8 @@ pub(crate) fn classes(alloc: Global, f: &CheckedFn) -> Result<Classes, AllocErro
     let mut codes = codes_of(alloc, checks)?;
     sort(codes.as_mut_slice());
     let numbers = numbers_of(alloc, checks, codes.as_slice())?;
-    Ok(Classes { size: codes.len() / 64 + 1, numbers })
+    Ok(Classes {
+        size: codes.len() / 64 + 1,
+        numbers,
+    })
 }

@@ -57,11 +57,21 @@ pub(crate) fn is_constant(cond: &Cond) -> bool
     ensures { result ≡ spec.is_constant cond.now }
 {
     match cond {
-        Cond::Le(i) => has_no_atoms(&i.left) && (i.left.constant() <= 0 || is_zero_constant(i.guard.as_ref())),
-        Cond::Aligned { gap, size, guard: _ } => are_multiples(gap.terms(), *size) && is_multiple(gap.constant(), *size),
+        Cond::Le(i) => has_no_atoms(&i.left)
+            && (i.left.constant() <= 0 || is_zero_constant(i.guard.as_ref())),
+        Cond::Aligned {
+            gap,
+            size,
+            guard: _,
+        } => are_multiples(gap.terms(), *size) && is_multiple(gap.constant(), *size),
         Cond::NonZero(l) => has_no_atoms(l) && l.constant() != 0,
         Cond::Equal(_, _) => false,
         Cond::Term { at: _, new: _ } => false,
-        Cond::Kept { tag: _, new: _, at: _, size: _ } => false,
+        Cond::Kept {
+            tag: _,
+            new: _,
+            at: _,
+            size: _,
+        } => false,
     }
 }

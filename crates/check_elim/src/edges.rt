@@ -41,16 +41,56 @@ fn side_at(f: &CheckedFn, table: &Table, e: &CheckedExpr) -> Side
         CheckedExpr::Null => Side::Null,
         CheckedExpr::Local { slot } => Side::Slot(*slot),
         CheckedExpr::Block { base: _ } => Side::Other,
-        CheckedExpr::Through { pointer: _, checks: _ } => Side::Other,
-        CheckedExpr::Element { pointer: _, index: _, size: _, checks: _ } => Side::Other,
-        CheckedExpr::Field { place: _, offset: _, checks: _ } => Side::Other,
-        CheckedExpr::Load { scalar: _, place: _ } => Side::Other,
+        CheckedExpr::Through {
+            pointer: _,
+            checks: _,
+        } => Side::Other,
+        CheckedExpr::Element {
+            pointer: _,
+            index: _,
+            size: _,
+            checks: _,
+        } => Side::Other,
+        CheckedExpr::Field {
+            place: _,
+            offset: _,
+            checks: _,
+        } => Side::Other,
+        CheckedExpr::Load {
+            scalar: _,
+            place: _,
+        } => Side::Other,
         CheckedExpr::AddressOf { place: _ } => Side::Other,
-        CheckedExpr::Moved { sum: _, pointer: _, by: _, size: _, checks: _ } => Side::Other,
-        CheckedExpr::Unary { op: _, scalar: _, of: _ } => Side::Other,
-        CheckedExpr::Binary { op: _, scalar: _, left: _, right: _, checks: _ } => Side::Other,
-        CheckedExpr::Compare { op: _, scalar: _, left: _, right: _ } => Side::Other,
-        CheckedExpr::Logical { op: _, left: _, right: _ } => Side::Other,
+        CheckedExpr::Moved {
+            sum: _,
+            pointer: _,
+            by: _,
+            size: _,
+            checks: _,
+        } => Side::Other,
+        CheckedExpr::Unary {
+            op: _,
+            scalar: _,
+            of: _,
+        } => Side::Other,
+        CheckedExpr::Binary {
+            op: _,
+            scalar: _,
+            left: _,
+            right: _,
+            checks: _,
+        } => Side::Other,
+        CheckedExpr::Compare {
+            op: _,
+            scalar: _,
+            left: _,
+            right: _,
+        } => Side::Other,
+        CheckedExpr::Logical {
+            op: _,
+            left: _,
+            right: _,
+        } => Side::Other,
     }
 }
 
@@ -76,13 +116,21 @@ fn int_side(slots: &[Shape], side: Side) -> Option<IntSide>
 {
     match side {
         Side::Slot(slot) => match sqlite_items::at(slots, slot as usize) {
-            Some(Shape::Int(scalar)) => Some(IntSide { slot: Some(slot), number: 0, is_unsigned: is_unsigned(*scalar) }),
+            Some(Shape::Int(scalar)) => Some(IntSide {
+                slot: Some(slot),
+                number: 0,
+                is_unsigned: is_unsigned(*scalar),
+            }),
             Some(Shape::Pointer { elem: _, bounds: _ }) => None,
             Some(Shape::Struct(_)) => None,
             Some(Shape::Address) => None,
             None => None,
         },
-        Side::Number(value, scalar) => Some(IntSide { slot: None, number: value, is_unsigned: is_unsigned(scalar) }),
+        Side::Number(value, scalar) => Some(IntSide {
+            slot: None,
+            number: value,
+            is_unsigned: is_unsigned(scalar),
+        }),
         Side::Null => None,
         Side::Other => None,
     }
@@ -160,7 +208,13 @@ fn one_more(z: i128, more: bool) -> i128
 }
 
 /// The fact of a comparison of integers. The only refusal is want of memory.
-fn int_fact(alloc: Global, op: Comparison, a: Option<IntSide>, b: Option<IntSide>, holds: bool) -> Result<Option<Lin>, AllocError>
+fn int_fact(
+    alloc: Global,
+    op: Comparison,
+    a: Option<IntSide>,
+    b: Option<IntSide>,
+    holds: bool,
+) -> Result<Option<Lin>, AllocError>
     ensures light { IfOk result IsLightFact }
     ensures fact { IfOk result (λ fact. fact ≡ flow.int_fact op (int_of_code a) (int_of_code b) holds) }
 {
@@ -178,22 +232,49 @@ fn int_fact(alloc: Global, op: Comparison, a: Option<IntSide>, b: Option<IntSide
 }
 
 /// The fact of a comparison of integers that is one of whole numbers. The only refusal is want of memory.
-fn ordered(alloc: Global, op: Comparison, a: &IntSide, b: &IntSide, holds: bool) -> Result<Option<Lin>, AllocError>
+fn ordered(
+    alloc: Global,
+    op: Comparison,
+    a: &IntSide,
+    b: &IntSide,
+    holds: bool,
+) -> Result<Option<Lin>, AllocError>
     ensures light { IfOk result IsLightFact }
     ensures fact { IfOk result (λ fact. fact ≡ order_fact op (form_of a.now.slot a.now.number) (form_of b.now.slot b.now.number) holds) }
 {
     match op {
-        Comparison::Less => Ok(Some(if holds { difference(alloc, a, b, true)? } else { difference(alloc, b, a, false)? })),
-        Comparison::LessEqual => Ok(Some(if holds { difference(alloc, a, b, false)? } else { difference(alloc, b, a, true)? })),
-        Comparison::Greater => Ok(Some(if holds { difference(alloc, b, a, true)? } else { difference(alloc, a, b, false)? })),
-        Comparison::GreaterEqual => Ok(Some(if holds { difference(alloc, b, a, false)? } else { difference(alloc, a, b, true)? })),
+        Comparison::Less => Ok(Some(if holds {
+            difference(alloc, a, b, true)?
+        } else {
+            difference(alloc, b, a, false)?
+        })),
+        Comparison::LessEqual => Ok(Some(if holds {
+            difference(alloc, a, b, false)?
+        } else {
+            difference(alloc, b, a, true)?
+        })),
+        Comparison::Greater => Ok(Some(if holds {
+            difference(alloc, b, a, true)?
+        } else {
+            difference(alloc, a, b, false)?
+        })),
+        Comparison::GreaterEqual => Ok(Some(if holds {
+            difference(alloc, b, a, false)?
+        } else {
+            difference(alloc, a, b, true)?
+        })),
         Comparison::Equal => Ok(None),
         Comparison::NotEqual => Ok(None),
     }
 }
 
 /// The fact of a pointer in a slot that is not null. The only refusal is want of memory.
-fn not_null(alloc: Global, slots: &[Shape], slot: u32, holds: bool) -> Result<Option<Lin>, AllocError>
+fn not_null(
+    alloc: Global,
+    slots: &[Shape],
+    slot: u32,
+    holds: bool,
+) -> Result<Option<Lin>, AllocError>
     ensures light { IfOk result IsLightFact }
     ensures fact { IfOk result (λ fact. fact ≡ not_null_fact slots.now slot holds) }
 {
@@ -214,7 +295,14 @@ fn not_null(alloc: Global, slots: &[Shape], slot: u32, holds: bool) -> Result<Op
 }
 
 /// The fact of a comparison, by its sides. The only refusal is want of memory.
-fn compare(alloc: Global, slots: &[Shape], op: Comparison, a: Side, b: Side, holds: bool) -> Result<Option<Lin>, AllocError>
+fn compare(
+    alloc: Global,
+    slots: &[Shape],
+    op: Comparison,
+    a: Side,
+    b: Side,
+    holds: bool,
+) -> Result<Option<Lin>, AllocError>
     ensures light { IfOk result IsLightFact }
     ensures fact { IfOk result (λ fact. fact ≡ flow.compare_fact slots.now op (side_of_code a) (side_of_code b) holds) }
 {
@@ -227,26 +315,82 @@ fn compare(alloc: Global, slots: &[Shape], op: Comparison, a: Side, b: Side, hol
 
 /// The form over slots that is at most 0 on an edge of a branch on an expression, if the edge tells one. The only refusal is want of memory.
 #[tactic(auto, unfolding(crate::specs::Direct::reading))]
-pub(crate) fn edge(alloc: Global, f: &CheckedFn, table: &Table, e: &CheckedExpr, holds: bool) -> Result<Option<Lin>, AllocError>
+pub(crate) fn edge(
+    alloc: Global,
+    f: &CheckedFn,
+    table: &Table,
+    e: &CheckedExpr,
+    holds: bool,
+) -> Result<Option<Lin>, AllocError>
     ensures light { IfOk result IsLightFact }
     ensures fact { IfOk result (λ fact. fact ≡ edges (reading (ops_of f.now table.now) f.now.slots e.now) holds) }
 {
     match e {
         CheckedExpr::Local { slot } => not_null(alloc, f.slots.as_slice(), *slot, holds),
-        CheckedExpr::Compare { op, scalar: _, left, right } => {
-            compare(alloc, f.slots.as_slice(), *op, side_at(f, table, left.get()), side_at(f, table, right.get()), holds)
+        CheckedExpr::Compare {
+            op,
+            scalar: _,
+            left,
+            right,
+        } => {
+            compare(
+                alloc,
+                f.slots.as_slice(),
+                *op,
+                side_at(f, table, left.get()),
+                side_at(f, table, right.get()),
+                holds,
+            )
         }
-        CheckedExpr::Number { value: _, scalar: _ } => Ok(None),
+        CheckedExpr::Number {
+            value: _,
+            scalar: _,
+        } => Ok(None),
         CheckedExpr::Null => Ok(None),
         CheckedExpr::Block { base: _ } => Ok(None),
-        CheckedExpr::Through { pointer: _, checks: _ } => Ok(None),
-        CheckedExpr::Element { pointer: _, index: _, size: _, checks: _ } => Ok(None),
-        CheckedExpr::Field { place: _, offset: _, checks: _ } => Ok(None),
-        CheckedExpr::Load { scalar: _, place: _ } => Ok(None),
+        CheckedExpr::Through {
+            pointer: _,
+            checks: _,
+        } => Ok(None),
+        CheckedExpr::Element {
+            pointer: _,
+            index: _,
+            size: _,
+            checks: _,
+        } => Ok(None),
+        CheckedExpr::Field {
+            place: _,
+            offset: _,
+            checks: _,
+        } => Ok(None),
+        CheckedExpr::Load {
+            scalar: _,
+            place: _,
+        } => Ok(None),
         CheckedExpr::AddressOf { place: _ } => Ok(None),
-        CheckedExpr::Moved { sum: _, pointer: _, by: _, size: _, checks: _ } => Ok(None),
-        CheckedExpr::Unary { op: _, scalar: _, of: _ } => Ok(None),
-        CheckedExpr::Binary { op: _, scalar: _, left: _, right: _, checks: _ } => Ok(None),
-        CheckedExpr::Logical { op: _, left: _, right: _ } => Ok(None),
+        CheckedExpr::Moved {
+            sum: _,
+            pointer: _,
+            by: _,
+            size: _,
+            checks: _,
+        } => Ok(None),
+        CheckedExpr::Unary {
+            op: _,
+            scalar: _,
+            of: _,
+        } => Ok(None),
+        CheckedExpr::Binary {
+            op: _,
+            scalar: _,
+            left: _,
+            right: _,
+            checks: _,
+        } => Ok(None),
+        CheckedExpr::Logical {
+            op: _,
+            left: _,
+            right: _,
+        } => Ok(None),
     }
 }

@@ -32,15 +32,27 @@ fn inequality_of(check: &Check) -> Result<Option<Ineq>, AllocError>
                 None => Ok(Some(Ineq { left, guard: None })),
                 Some(guard) => {
                     let guard = guard.merged()?;
-                    Ok(Some(Ineq { left, guard: Some(guard) }))
+                    Ok(Some(Ineq {
+                        left,
+                        guard: Some(guard),
+                    }))
                 }
             }
         }
-        Cond::Aligned { gap: _, size: _, guard: _ } => Ok(None),
+        Cond::Aligned {
+            gap: _,
+            size: _,
+            guard: _,
+        } => Ok(None),
         Cond::NonZero(_) => Ok(None),
         Cond::Equal(_, _) => Ok(None),
         Cond::Term { at: _, new: _ } => Ok(None),
-        Cond::Kept { tag: _, new: _, at: _, size: _ } => Ok(None),
+        Cond::Kept {
+            tag: _,
+            new: _,
+            at: _,
+            size: _,
+        } => Ok(None),
     }
 }
 
@@ -77,7 +89,9 @@ fn facts_of(alloc: Global, f: &CheckedFn) -> Result<Vec<Ineq>, AllocError>
 fn form_order(a: &Lin, b: &Lin) -> Ordering
     ensures { result ≡ form_cmp a.now b.now }
 {
-    a.terms().cmp(b.terms()).then(a.constant().cmp(&b.constant()))
+    a.terms()
+        .cmp(b.terms())
+        .then(a.constant().cmp(&b.constant()))
 }
 
 /// How two guards stand in the order of facts.
@@ -159,10 +173,16 @@ fn check_fact(f: &CheckedFn, facts: &[Ineq], check: &Check) -> Result<CheckFact,
     ensures { IfOk result (λ x. IsCheckFact f.now facts.now check.now x) }
 {
     match inequality_of(check)? {
-        None => Ok(CheckFact { inequality: None, own: None }),
+        None => Ok(CheckFact {
+            inequality: None,
+            own: None,
+        }),
         Some(i) => {
             let own = own_place(f, facts, &i);
-            Ok(CheckFact { inequality: Some(i), own })
+            Ok(CheckFact {
+                inequality: Some(i),
+                own,
+            })
         }
     }
 }
@@ -221,7 +241,12 @@ fn slots_end(pairs: &[(u32, usize)]) -> usize
 }
 
 /// The mask of a slot: the numbers that stand beside it. The only refusal is want of memory.
-fn mask_of(alloc: Global, pairs: &[(u32, usize)], slot: usize, size: usize) -> Result<Vec<u64>, AllocError>
+fn mask_of(
+    alloc: Global,
+    pairs: &[(u32, usize)],
+    slot: usize,
+    size: usize,
+) -> Result<Vec<u64>, AllocError>
     requires { (p : ℕ × ℕ) → Contains pairs.now p → p.1 < 64 * size }
     ensures length { IfOk result (λ mask. length mask.items ≡ size) }
     ensures members { IfOk result (λ mask. (j : ℕ) → has mask.items j ≡ has_pair slot j pairs.now) }
@@ -262,5 +287,10 @@ pub(crate) fn inequalities(alloc: Global, f: &CheckedFn) -> Result<Inequalities,
     let size = facts.len() / 64 + 1;
     let pairs = pairs_of(alloc, f, facts.as_slice())?;
     let masks = masks_of(alloc, pairs.as_slice(), size)?;
-    Ok(Inequalities { size, facts, checks, masks })
+    Ok(Inequalities {
+        size,
+        facts,
+        checks,
+        masks,
+    })
 }

@@ -16,20 +16,57 @@ fn reads_memory(e: &CheckedExpr) -> bool
     ensures { result ≡ spec.reads_memory e.now }
 {
     match e {
-        CheckedExpr::Number { value: _, scalar: _ } => false,
+        CheckedExpr::Number {
+            value: _,
+            scalar: _,
+        } => false,
         CheckedExpr::Null => false,
         CheckedExpr::Local { slot: _ } => false,
         CheckedExpr::Block { base: _ } => false,
         CheckedExpr::Through { pointer, checks: _ } => reads_memory(pointer.get()),
-        CheckedExpr::Element { pointer, index, size: _, checks: _ } => reads_memory(pointer.get()) || reads_memory(index.get()),
-        CheckedExpr::Field { place, offset: _, checks: _ } => reads_memory(place.get()),
-        CheckedExpr::Load { scalar: _, place: _ } => true,
+        CheckedExpr::Element {
+            pointer,
+            index,
+            size: _,
+            checks: _,
+        } => reads_memory(pointer.get()) || reads_memory(index.get()),
+        CheckedExpr::Field {
+            place,
+            offset: _,
+            checks: _,
+        } => reads_memory(place.get()),
+        CheckedExpr::Load {
+            scalar: _,
+            place: _,
+        } => true,
         CheckedExpr::AddressOf { place } => reads_memory(place.get()),
-        CheckedExpr::Moved { sum: _, pointer, by, size: _, checks: _ } => reads_memory(pointer.get()) || reads_memory(by.get()),
-        CheckedExpr::Unary { op: _, scalar: _, of } => reads_memory(of.get()),
-        CheckedExpr::Binary { op: _, scalar: _, left, right, checks: _ } => reads_memory(left.get()) || reads_memory(right.get()),
-        CheckedExpr::Compare { op: _, scalar: _, left, right } => reads_memory(left.get()) || reads_memory(right.get()),
-        CheckedExpr::Logical { op: _, left, right } => reads_memory(left.get()) || reads_memory(right.get()),
+        CheckedExpr::Moved {
+            sum: _,
+            pointer,
+            by,
+            size: _,
+            checks: _,
+        } => reads_memory(pointer.get()) || reads_memory(by.get()),
+        CheckedExpr::Unary {
+            op: _,
+            scalar: _,
+            of,
+        } => reads_memory(of.get()),
+        CheckedExpr::Binary {
+            op: _,
+            scalar: _,
+            left,
+            right,
+            checks: _,
+        } => reads_memory(left.get()) || reads_memory(right.get()),
+        CheckedExpr::Compare {
+            op: _,
+            scalar: _,
+            left,
+            right,
+        } => reads_memory(left.get()) || reads_memory(right.get()),
+        CheckedExpr::Logical { op: _, left, right } => reads_memory(left.get())
+            || reads_memory(right.get()),
     }
 }
 
@@ -39,7 +76,10 @@ fn add_slots(e: &CheckedExpr, slots: &mut Vec<u32>) -> Result<(), AllocError>
     ensures { OnOk result (slots.new.items ≡ slots.old.items ++ slots_read e.now) }
 {
     match e {
-        CheckedExpr::Number { value: _, scalar: _ } => Ok(()),
+        CheckedExpr::Number {
+            value: _,
+            scalar: _,
+        } => Ok(()),
         CheckedExpr::Null => Ok(()),
         CheckedExpr::Local { slot } => {
             slots.push(*slot)?;
@@ -47,23 +87,53 @@ fn add_slots(e: &CheckedExpr, slots: &mut Vec<u32>) -> Result<(), AllocError>
         }
         CheckedExpr::Block { base: _ } => Ok(()),
         CheckedExpr::Through { pointer, checks: _ } => add_slots(pointer.get(), slots),
-        CheckedExpr::Element { pointer, index, size: _, checks: _ } => {
+        CheckedExpr::Element {
+            pointer,
+            index,
+            size: _,
+            checks: _,
+        } => {
             add_slots(pointer.get(), slots)?;
             add_slots(index.get(), slots)
         }
-        CheckedExpr::Field { place, offset: _, checks: _ } => add_slots(place.get(), slots),
+        CheckedExpr::Field {
+            place,
+            offset: _,
+            checks: _,
+        } => add_slots(place.get(), slots),
         CheckedExpr::Load { scalar: _, place } => add_slots(place.get(), slots),
         CheckedExpr::AddressOf { place } => add_slots(place.get(), slots),
-        CheckedExpr::Moved { sum: _, pointer, by, size: _, checks: _ } => {
+        CheckedExpr::Moved {
+            sum: _,
+            pointer,
+            by,
+            size: _,
+            checks: _,
+        } => {
             add_slots(pointer.get(), slots)?;
             add_slots(by.get(), slots)
         }
-        CheckedExpr::Unary { op: _, scalar: _, of } => add_slots(of.get(), slots),
-        CheckedExpr::Binary { op: _, scalar: _, left, right, checks: _ } => {
+        CheckedExpr::Unary {
+            op: _,
+            scalar: _,
+            of,
+        } => add_slots(of.get(), slots),
+        CheckedExpr::Binary {
+            op: _,
+            scalar: _,
+            left,
+            right,
+            checks: _,
+        } => {
             add_slots(left.get(), slots)?;
             add_slots(right.get(), slots)
         }
-        CheckedExpr::Compare { op: _, scalar: _, left, right } => {
+        CheckedExpr::Compare {
+            op: _,
+            scalar: _,
+            left,
+            right,
+        } => {
             add_slots(left.get(), slots)?;
             add_slots(right.get(), slots)
         }
@@ -118,7 +188,11 @@ fn add_atom_slots(f: &CheckedFn, atom: usize, slots: &mut Vec<u32>) -> Result<()
 }
 
 /// Appends the slots of these terms. The only refusal is want of memory.
-fn add_term_slots(f: &CheckedFn, terms: &[(i64, usize)], slots: &mut Vec<u32>) -> Result<(), AllocError>
+fn add_term_slots(
+    f: &CheckedFn,
+    terms: &[(i64, usize)],
+    slots: &mut Vec<u32>,
+) -> Result<(), AllocError>
     ensures { OnOk result (slots.new.items ≡ slots.old.items ++ flat_map (slots_in f.now) terms.now) }
 {
     for term in terms {

@@ -84,7 +84,9 @@ impl Lost {
             join(self.words.as_mut_slice(), other.words.as_slice());
         } else {
             self.reached = true;
-            self.words.as_mut_slice().copy_from_slice(other.words.as_slice());
+            self.words
+                .as_mut_slice()
+                .copy_from_slice(other.words.as_slice());
         }
     }
 
@@ -106,7 +108,10 @@ impl Lost {
         ensures size { IfOk result (λ l. size_of l ≡ size) }
         ensures facts { IfOk result (λ l. facts l ≡ all_sure) }
     {
-        Ok(Lost { reached: true, words: zeros(alloc, size)? })
+        Ok(Lost {
+            reached: true,
+            words: zeros(alloc, size)?,
+        })
     }
 
     /// Where no fact is met.
@@ -115,7 +120,10 @@ impl Lost {
         ensures size { IfOk result (λ l. size_of l ≡ size) }
         ensures facts { IfOk result (λ l. facts l ≡ all_lost size) }
     {
-        Ok(Lost { reached: true, words: ones(alloc, size)? })
+        Ok(Lost {
+            reached: true,
+            words: ones(alloc, size)?,
+        })
     }
 
     /// Where nothing comes.
@@ -179,7 +187,13 @@ impl Lost {
     }
 
     /// What is lost behind an edge of a branch that tells this, if it tells anything, of inequalities. The only refusal is want of memory.
-    fn find_inequality(&mut self, alloc: Global, f: &CheckedFn, table: &Inequalities, fact: Option<Lin>) -> Result<(), AllocError>
+    fn find_inequality(
+        &mut self,
+        alloc: Global,
+        f: &CheckedFn,
+        table: &Inequalities,
+        fact: Option<Lin>,
+    ) -> Result<(), AllocError>
         requires table { AreInequalities f.now table.now }
         requires size { size_of self.old ≡ table.now.size }
         requires light { IsLightFact fact }
@@ -202,7 +216,13 @@ impl Lost {
 
     /// What is lost behind an edge of a branch that tells this, if it tells anything. The only refusal is want of memory.
     #[tactic(auto, unfolding(crate::specs::Sets::IsTable, crate::specs::Sets::after_all))]
-    pub(crate) fn find(&mut self, alloc: Global, f: &CheckedFn, table: &Table, fact: Option<Lin>) -> Result<(), AllocError>
+    pub(crate) fn find(
+        &mut self,
+        alloc: Global,
+        f: &CheckedFn,
+        table: &Table,
+        fact: Option<Lin>,
+    ) -> Result<(), AllocError>
         requires table { IsTable f.now table.now }
         requires size { size_of self.old ≡ size_in table.now }
         requires light { IsLightFact fact }

@@ -14,19 +14,62 @@ fn is_local(e: &CheckedExpr, slot: usize) -> bool
 {
     match e {
         CheckedExpr::Local { slot: own } => *own as usize == slot,
-        CheckedExpr::Number { value: _, scalar: _ } => false,
+        CheckedExpr::Number {
+            value: _,
+            scalar: _,
+        } => false,
         CheckedExpr::Null => false,
         CheckedExpr::Block { base: _ } => false,
-        CheckedExpr::Through { pointer: _, checks: _ } => false,
-        CheckedExpr::Element { pointer: _, index: _, size: _, checks: _ } => false,
-        CheckedExpr::Field { place: _, offset: _, checks: _ } => false,
-        CheckedExpr::Load { scalar: _, place: _ } => false,
+        CheckedExpr::Through {
+            pointer: _,
+            checks: _,
+        } => false,
+        CheckedExpr::Element {
+            pointer: _,
+            index: _,
+            size: _,
+            checks: _,
+        } => false,
+        CheckedExpr::Field {
+            place: _,
+            offset: _,
+            checks: _,
+        } => false,
+        CheckedExpr::Load {
+            scalar: _,
+            place: _,
+        } => false,
         CheckedExpr::AddressOf { place: _ } => false,
-        CheckedExpr::Moved { sum: _, pointer: _, by: _, size: _, checks: _ } => false,
-        CheckedExpr::Unary { op: _, scalar: _, of: _ } => false,
-        CheckedExpr::Binary { op: _, scalar: _, left: _, right: _, checks: _ } => false,
-        CheckedExpr::Compare { op: _, scalar: _, left: _, right: _ } => false,
-        CheckedExpr::Logical { op: _, left: _, right: _ } => false,
+        CheckedExpr::Moved {
+            sum: _,
+            pointer: _,
+            by: _,
+            size: _,
+            checks: _,
+        } => false,
+        CheckedExpr::Unary {
+            op: _,
+            scalar: _,
+            of: _,
+        } => false,
+        CheckedExpr::Binary {
+            op: _,
+            scalar: _,
+            left: _,
+            right: _,
+            checks: _,
+        } => false,
+        CheckedExpr::Compare {
+            op: _,
+            scalar: _,
+            left: _,
+            right: _,
+        } => false,
+        CheckedExpr::Logical {
+            op: _,
+            left: _,
+            right: _,
+        } => false,
     }
 }
 
@@ -62,7 +105,11 @@ fn renamed(alloc: Global, f: &CheckedFn, over_slots: &Lin) -> Result<Option<Lin>
 /// A fact over slots as an inequality over atoms, as inequalities are compared. A fact of which some local is no atom is none. The only
 /// refusal is want of memory.
 #[tactic(auto, unfolding(crate::specs::Light::IsLight))]
-pub(crate) fn over_atoms(alloc: Global, f: &CheckedFn, form: &Lin) -> Result<Option<Ineq>, AllocError>
+pub(crate) fn over_atoms(
+    alloc: Global,
+    f: &CheckedFn,
+    form: &Lin,
+) -> Result<Option<Ineq>, AllocError>
     requires { IsLight form.now }
     ensures { IfOk result (λ fact. fact ≡ fact_over_atoms f.now form.now) }
 {
@@ -70,6 +117,9 @@ pub(crate) fn over_atoms(alloc: Global, f: &CheckedFn, form: &Lin) -> Result<Opt
     let form = renamed(alloc, f, &merged)?;
     match form {
         None => Ok(None),
-        Some(sum) => Ok(Some(Ineq { left: sum.norm()?, guard: None })),
+        Some(sum) => Ok(Some(Ineq {
+            left: sum.norm()?,
+            guard: None,
+        })),
     }
 }

@@ -53,7 +53,16 @@ fn unmet(alloc: Global, f: &CheckedFn, table: &Table) -> Result<Vec<bool>, Alloc
     let checks = f.checks.as_slice();
     let marks = unmarked(alloc, checks.len())?;
     let mut kept = Kept { lost: marks };
-    let _end = pass_all(alloc, f, table, f.body.as_slice(), rounds.as_slice(), 0, &mut lost, &mut kept)?;
+    let _end = pass_all(
+        alloc,
+        f,
+        table,
+        f.body.as_slice(),
+        rounds.as_slice(),
+        0,
+        &mut lost,
+        &mut kept,
+    )?;
     Ok(kept.lost)
 }
 
@@ -97,7 +106,13 @@ fn is_needed(f: &CheckedFn, table: &Table, unmet: &[bool], unequal: &[bool], pla
 }
 
 /// Which checks are kept, by their marks. The only refusal is want of memory.
-fn kept_by(alloc: Global, f: &CheckedFn, table: &Table, unmet: &[bool], unequal: &[bool]) -> Result<Vec<bool>, AllocError>
+fn kept_by(
+    alloc: Global,
+    f: &CheckedFn,
+    table: &Table,
+    unmet: &[bool],
+    unequal: &[bool],
+) -> Result<Vec<bool>, AllocError>
     requires table { IsTable f.now table.now }
     requires as_many { length unmet.now ≡ length f.now.checks }
     requires as_many_again { length unequal.now ≡ length f.now.checks }

@@ -15,7 +15,13 @@ use checked_tree::{CheckedExpr, CheckedFn, CheckedStmt};
 use std::alloc::{AllocError, Global};
 
 /// What is lost behind a statement without parts, where no marks are made. The only refusal is want of memory.
-fn past_plain(alloc: Global, f: &CheckedFn, table: &Table, statement: &CheckedStmt, lost: &mut Lost) -> Result<(), AllocError>
+fn past_plain(
+    alloc: Global,
+    f: &CheckedFn,
+    table: &Table,
+    statement: &CheckedStmt,
+    lost: &mut Lost,
+) -> Result<(), AllocError>
     requires table { IsTable f.now table.now }
     requires size { size_of lost.old ≡ size_in table.now }
     requires plain { is_plain (out-CheckedStmt statement.now) ≡ true }
@@ -23,12 +29,20 @@ fn past_plain(alloc: Global, f: &CheckedFn, table: &Table, statement: &CheckedSt
     ensures facts { OnOk result (facts lost.new ≡ behind (act_of (passing (ops_of f.now table.now) f.now.slots statement.now)) (facts lost.old)) }
     ensures whole { backs_of (passing (ops_of f.now table.now) f.now.slots statement.now) ≡ [] }
 {
-    let mut unmarked = Kept { lost: Vec::new(alloc) };
+    let mut unmarked = Kept {
+        lost: Vec::new(alloc),
+    };
     pass_plain(alloc, f, table, statement, lost, &mut unmarked)
 }
 
 /// What is lost where a test holds, where no marks are made; the result is what is lost where it does not. The only refusal is want of memory.
-fn past_test(alloc: Global, f: &CheckedFn, table: &Table, e: &CheckedExpr, lost: &mut Lost) -> Result<Lost, AllocError>
+fn past_test(
+    alloc: Global,
+    f: &CheckedFn,
+    table: &Table,
+    e: &CheckedExpr,
+    lost: &mut Lost,
+) -> Result<Lost, AllocError>
     requires table { IsTable f.now table.now }
     requires size { size_of lost.old ≡ size_in table.now }
     ensures length { size_of lost.new ≡ size_of lost.old }
@@ -36,7 +50,9 @@ fn past_test(alloc: Global, f: &CheckedFn, table: &Table, e: &CheckedExpr, lost:
     ensures holds { OnOk result (facts lost.new ≡ holds_of (reading (ops_of f.now table.now) f.now.slots e.now) (facts lost.old)) }
     ensures fails { IfOk result (λ other. facts other ≡ fails_of (reading (ops_of f.now table.now) f.now.slots e.now) (facts lost.old)) }
 {
-    let mut unmarked = Kept { lost: Vec::new(alloc) };
+    let mut unmarked = Kept {
+        lost: Vec::new(alloc),
+    };
     test(alloc, f, table, e, lost, &mut unmarked)
 }
 
@@ -52,7 +68,14 @@ fn set_round(rounds: &mut Vec<Lost>, place: usize, round: Lost)
 /// refusal is want of memory.
 #[tactic(auto, using(crate::proofs::Looping::nothing_on_ok))]
 #[cycle(surveys)]
-fn survey(alloc: Global, f: &CheckedFn, table: &Table, statement: &CheckedStmt, lost: &mut Lost, rounds: &mut Vec<Lost>) -> Result<(), AllocError>
+fn survey(
+    alloc: Global,
+    f: &CheckedFn,
+    table: &Table,
+    statement: &CheckedStmt,
+    lost: &mut Lost,
+    rounds: &mut Vec<Lost>,
+) -> Result<(), AllocError>
     requires table { IsTable f.now table.now }
     requires size { size_of lost.old ≡ size_in table.now }
     ensures length { size_of lost.new ≡ size_of lost.old }
@@ -61,25 +84,76 @@ fn survey(alloc: Global, f: &CheckedFn, table: &Table, statement: &CheckedStmt, 
 {
     match statement {
         CheckedStmt::Empty { line: _ } => past_plain(alloc, f, table, statement, lost),
-        CheckedStmt::Assign { line: _, slot: _, scalar: _, value: _, checks: _ } => past_plain(alloc, f, table, statement, lost),
-        CheckedStmt::AssignAutomatic { line: _, slot: _, hidden: _, value: _, checks: _ } => past_plain(alloc, f, table, statement, lost),
-        CheckedStmt::Store { line: _, scalar: _, place: _, value: _, checks: _ } => past_plain(alloc, f, table, statement, lost),
-        CheckedStmt::Zero { line: _, place: _, size: _ } => past_plain(alloc, f, table, statement, lost),
-        CheckedStmt::Call { line: _, target: _, function: _, arguments: _, checks: _ } => past_plain(alloc, f, table, statement, lost),
-        CheckedStmt::Kernel { line: _, target: _, name: _, arguments: _, pointer: _, function: _, elem: _, size: _ } => {
-            past_plain(alloc, f, table, statement, lost)
-        }
-        CheckedStmt::Return { line: _, value: _, checks: _ } => past_plain(alloc, f, table, statement, lost),
-        CheckedStmt::If { line: _, test: e, holds, fails } => {
+        CheckedStmt::Assign {
+            line: _,
+            slot: _,
+            scalar: _,
+            value: _,
+            checks: _,
+        } => past_plain(alloc, f, table, statement, lost),
+        CheckedStmt::AssignAutomatic {
+            line: _,
+            slot: _,
+            hidden: _,
+            value: _,
+            checks: _,
+        } => past_plain(alloc, f, table, statement, lost),
+        CheckedStmt::Store {
+            line: _,
+            scalar: _,
+            place: _,
+            value: _,
+            checks: _,
+        } => past_plain(alloc, f, table, statement, lost),
+        CheckedStmt::Zero {
+            line: _,
+            place: _,
+            size: _,
+        } => past_plain(alloc, f, table, statement, lost),
+        CheckedStmt::Call {
+            line: _,
+            target: _,
+            function: _,
+            arguments: _,
+            checks: _,
+        } => past_plain(alloc, f, table, statement, lost),
+        CheckedStmt::Kernel {
+            line: _,
+            target: _,
+            name: _,
+            arguments: _,
+            pointer: _,
+            function: _,
+            elem: _,
+            size: _,
+        } => { past_plain(alloc, f, table, statement, lost) }
+        CheckedStmt::Return {
+            line: _,
+            value: _,
+            checks: _,
+        } => past_plain(alloc, f, table, statement, lost),
+        CheckedStmt::If {
+            line: _,
+            test: e,
+            holds,
+            fails,
+        } => {
             let mut other = past_test(alloc, f, table, e.get(), lost)?;
             survey_all(alloc, f, table, holds.as_slice(), lost, rounds)?;
             survey_all(alloc, f, table, fails.as_slice(), &mut other, rounds)?;
             lost.join(&other);
             Ok(())
         }
-        CheckedStmt::While { line: _, test: e, body } => {
+        CheckedStmt::While {
+            line: _,
+            test: e,
+            body,
+        } => {
             let place = rounds.len();
-            rounds.push(Lost { reached: false, words: Vec::new(alloc) })?;
+            rounds.push(Lost {
+                reached: false,
+                words: Vec::new(alloc),
+            })?;
             let mut round = Lost::sure(alloc, table.size())?;
             let _left = past_test(alloc, f, table, e.get(), &mut round)?;
             survey_all(alloc, f, table, body.as_slice(), &mut round, rounds)?;
@@ -94,7 +168,14 @@ fn survey(alloc: Global, f: &CheckedFn, table: &Table, statement: &CheckedStmt, 
 
 /// The same of statements. The only refusal is want of memory.
 #[cycle(surveys)]
-pub(crate) fn survey_all(alloc: Global, f: &CheckedFn, table: &Table, statements: &[CheckedStmt], lost: &mut Lost, rounds: &mut Vec<Lost>) -> Result<(), AllocError>
+pub(crate) fn survey_all(
+    alloc: Global,
+    f: &CheckedFn,
+    table: &Table,
+    statements: &[CheckedStmt],
+    lost: &mut Lost,
+    rounds: &mut Vec<Lost>,
+) -> Result<(), AllocError>
     requires table { IsTable f.now table.now }
     requires size { size_of lost.old ≡ size_in table.now }
     ensures length { size_of lost.new ≡ size_of lost.old }

@@ -28,7 +28,10 @@ pub(crate) fn run_of(f: &CheckedFn, table: &Inequalities, strong: &Ineq) -> Run
     ensures members { (j : ℕ) → (leb result.from j && nat_lt j result.to) ≡ line_implies strong.now (slice_get table.now.facts.items j) }
 {
     let facts = table.facts.as_slice();
-    Run { from: facts.partition_point(|fact| is_before(fact, strong)), to: facts.partition_point(|fact| is_up_to(fact, strong)) }
+    Run {
+        from: facts.partition_point(|fact| is_before(fact, strong)),
+        to: facts.partition_point(|fact| is_up_to(fact, strong)),
+    }
 }
 
 /// Takes out of a set of facts what an inequality implies.

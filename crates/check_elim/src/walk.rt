@@ -11,7 +11,14 @@ use std::alloc::{AllocError, Global};
 
 /// What is lost behind a value. The only refusal is want of memory.
 #[tactic(auto, unfolding(crate::specs::Direct::reading))]
-pub(crate) fn value(alloc: Global, f: &CheckedFn, table: &Table, e: &CheckedExpr, lost: &mut Lost, kept: &mut Kept) -> Result<(), AllocError>
+pub(crate) fn value(
+    alloc: Global,
+    f: &CheckedFn,
+    table: &Table,
+    e: &CheckedExpr,
+    lost: &mut Lost,
+    kept: &mut Kept,
+) -> Result<(), AllocError>
     requires table { IsTable f.now table.now }
     requires size { size_of lost.old ≡ size_in table.now }
     ensures length { size_of lost.new ≡ size_of lost.old }
@@ -19,7 +26,10 @@ pub(crate) fn value(alloc: Global, f: &CheckedFn, table: &Table, e: &CheckedExpr
     ensures marks { OnOk result (marking kept.new ≡ noted (value_of (reading (ops_of f.now table.now) f.now.slots e.now)) (facts lost.old) (marking kept.old)) }
 {
     match e {
-        CheckedExpr::Number { value: _, scalar: _ } => Ok(()),
+        CheckedExpr::Number {
+            value: _,
+            scalar: _,
+        } => Ok(()),
         CheckedExpr::Null => Ok(()),
         CheckedExpr::Local { slot: _ } => Ok(()),
         CheckedExpr::Block { base: _ } => Ok(()),
@@ -28,20 +38,35 @@ pub(crate) fn value(alloc: Global, f: &CheckedFn, table: &Table, e: &CheckedExpr
             lost.pass(f, table, checks.as_slice(), kept);
             Ok(())
         }
-        CheckedExpr::Element { pointer, index, size: _, checks } => {
+        CheckedExpr::Element {
+            pointer,
+            index,
+            size: _,
+            checks,
+        } => {
             value(alloc, f, table, pointer.get(), lost, kept)?;
             value(alloc, f, table, index.get(), lost, kept)?;
             lost.pass(f, table, checks.as_slice(), kept);
             Ok(())
         }
-        CheckedExpr::Field { place, offset: _, checks } => {
+        CheckedExpr::Field {
+            place,
+            offset: _,
+            checks,
+        } => {
             value(alloc, f, table, place.get(), lost, kept)?;
             lost.pass(f, table, checks.as_slice(), kept);
             Ok(())
         }
         CheckedExpr::Load { scalar: _, place } => value(alloc, f, table, place.get(), lost, kept),
         CheckedExpr::AddressOf { place } => value(alloc, f, table, place.get(), lost, kept),
-        CheckedExpr::Moved { sum, pointer, by, size: _, checks } => {
+        CheckedExpr::Moved {
+            sum,
+            pointer,
+            by,
+            size: _,
+            checks,
+        } => {
             match sum {
                 PointerSum::PointerPlus => {
                     value(alloc, f, table, pointer.get(), lost, kept)?;
@@ -59,14 +84,29 @@ pub(crate) fn value(alloc: Global, f: &CheckedFn, table: &Table, e: &CheckedExpr
             lost.pass(f, table, checks.as_slice(), kept);
             Ok(())
         }
-        CheckedExpr::Unary { op: _, scalar: _, of } => value(alloc, f, table, of.get(), lost, kept),
-        CheckedExpr::Binary { op: _, scalar: _, left, right, checks } => {
+        CheckedExpr::Unary {
+            op: _,
+            scalar: _,
+            of,
+        } => value(alloc, f, table, of.get(), lost, kept),
+        CheckedExpr::Binary {
+            op: _,
+            scalar: _,
+            left,
+            right,
+            checks,
+        } => {
             value(alloc, f, table, left.get(), lost, kept)?;
             value(alloc, f, table, right.get(), lost, kept)?;
             lost.pass(f, table, checks.as_slice(), kept);
             Ok(())
         }
-        CheckedExpr::Compare { op: _, scalar: _, left, right } => {
+        CheckedExpr::Compare {
+            op: _,
+            scalar: _,
+            left,
+            right,
+        } => {
             value(alloc, f, table, left.get(), lost, kept)?;
             value(alloc, f, table, right.get(), lost, kept)
         }
@@ -98,7 +138,14 @@ pub(crate) fn value(alloc: Global, f: &CheckedFn, table: &Table, e: &CheckedExpr
 }
 
 /// What is lost behind the edge of a leaf where it holds; the result is what is lost behind the other. The only refusal is want of memory.
-fn branch(alloc: Global, f: &CheckedFn, table: &Table, e: &CheckedExpr, lost: &mut Lost, kept: &mut Kept) -> Result<Lost, AllocError>
+fn branch(
+    alloc: Global,
+    f: &CheckedFn,
+    table: &Table,
+    e: &CheckedExpr,
+    lost: &mut Lost,
+    kept: &mut Kept,
+) -> Result<Lost, AllocError>
     requires table { IsTable f.now table.now }
     requires size { size_of lost.old ≡ size_in table.now }
     ensures length { size_of lost.new ≡ size_of lost.old }
@@ -118,7 +165,14 @@ fn branch(alloc: Global, f: &CheckedFn, table: &Table, e: &CheckedExpr, lost: &m
 
 /// What is lost where a test holds; the result is what is lost where it does not. The only refusal is want of memory.
 #[tactic(auto, unfolding(crate::specs::Direct::reading))]
-pub(crate) fn test(alloc: Global, f: &CheckedFn, table: &Table, e: &CheckedExpr, lost: &mut Lost, kept: &mut Kept) -> Result<Lost, AllocError>
+pub(crate) fn test(
+    alloc: Global,
+    f: &CheckedFn,
+    table: &Table,
+    e: &CheckedExpr,
+    lost: &mut Lost,
+    kept: &mut Kept,
+) -> Result<Lost, AllocError>
     requires table { IsTable f.now table.now }
     requires size { size_of lost.old ≡ size_in table.now }
     ensures length { size_of lost.new ≡ size_of lost.old }
@@ -128,16 +182,40 @@ pub(crate) fn test(alloc: Global, f: &CheckedFn, table: &Table, e: &CheckedExpr,
     ensures marks { OnOk result (marking kept.new ≡ asked_of (reading (ops_of f.now table.now) f.now.slots e.now) (facts lost.old) (marking kept.old)) }
 {
     match e {
-        CheckedExpr::Number { value: _, scalar: _ } => branch(alloc, f, table, e, lost, kept),
+        CheckedExpr::Number {
+            value: _,
+            scalar: _,
+        } => branch(alloc, f, table, e, lost, kept),
         CheckedExpr::Null => branch(alloc, f, table, e, lost, kept),
         CheckedExpr::Local { slot: _ } => branch(alloc, f, table, e, lost, kept),
         CheckedExpr::Block { base: _ } => branch(alloc, f, table, e, lost, kept),
-        CheckedExpr::Through { pointer: _, checks: _ } => branch(alloc, f, table, e, lost, kept),
-        CheckedExpr::Element { pointer: _, index: _, size: _, checks: _ } => branch(alloc, f, table, e, lost, kept),
-        CheckedExpr::Field { place: _, offset: _, checks: _ } => branch(alloc, f, table, e, lost, kept),
-        CheckedExpr::Load { scalar: _, place: _ } => branch(alloc, f, table, e, lost, kept),
+        CheckedExpr::Through {
+            pointer: _,
+            checks: _,
+        } => branch(alloc, f, table, e, lost, kept),
+        CheckedExpr::Element {
+            pointer: _,
+            index: _,
+            size: _,
+            checks: _,
+        } => branch(alloc, f, table, e, lost, kept),
+        CheckedExpr::Field {
+            place: _,
+            offset: _,
+            checks: _,
+        } => branch(alloc, f, table, e, lost, kept),
+        CheckedExpr::Load {
+            scalar: _,
+            place: _,
+        } => branch(alloc, f, table, e, lost, kept),
         CheckedExpr::AddressOf { place: _ } => branch(alloc, f, table, e, lost, kept),
-        CheckedExpr::Moved { sum: _, pointer: _, by: _, size: _, checks: _ } => branch(alloc, f, table, e, lost, kept),
+        CheckedExpr::Moved {
+            sum: _,
+            pointer: _,
+            by: _,
+            size: _,
+            checks: _,
+        } => branch(alloc, f, table, e, lost, kept),
         CheckedExpr::Unary { op, scalar: _, of } => {
             match op {
                 Unary::Not => {
@@ -151,8 +229,19 @@ pub(crate) fn test(alloc: Global, f: &CheckedFn, table: &Table, e: &CheckedExpr,
                 Unary::Cast => branch(alloc, f, table, e, lost, kept),
             }
         }
-        CheckedExpr::Binary { op: _, scalar: _, left: _, right: _, checks: _ } => branch(alloc, f, table, e, lost, kept),
-        CheckedExpr::Compare { op: _, scalar: _, left: _, right: _ } => branch(alloc, f, table, e, lost, kept),
+        CheckedExpr::Binary {
+            op: _,
+            scalar: _,
+            left: _,
+            right: _,
+            checks: _,
+        } => branch(alloc, f, table, e, lost, kept),
+        CheckedExpr::Compare {
+            op: _,
+            scalar: _,
+            left: _,
+            right: _,
+        } => branch(alloc, f, table, e, lost, kept),
         CheckedExpr::Logical { op, left, right } => {
             match op {
                 Logic::And => {

@@ -1,4 +1,4 @@
-use Rattle.std.proofs.Common.{◌≡◌, ℤ, List, drop, map, ◌++◌}
+use Rattle.std.proofs.Common.{◌≡◌, ℤ, drop, map, ◌++◌}
 use Rattle.std.specs.Global.{Vec}
 use Rattle.check_elim.specs.Tables.{check_code}
 use Rattle.check_elim.proofs.classes.codes_of.Given as goal

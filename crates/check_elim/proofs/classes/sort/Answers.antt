@@ -1,4 +1,4 @@
-use Rattle.std.proofs.Common.{◌≡◌, ℤ, List, ap, rules}
+use Rattle.std.proofs.Common.{ℤ, ap, rules}
 use Rattle.std.specs.Global.{Vec}
 use Rattle.std.specs.Ordering.{is_lt}
 use Rattle.std.proofs.lemmas.List.Sorted.{sorted_far, ranks_by, answers_always}

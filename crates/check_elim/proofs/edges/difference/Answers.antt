@@ -1,7 +1,6 @@
-use Rattle.std.proofs.Common.{◌≡◌, sym, ap, ◌∙◌, subst, rules}
-use Rattle.dep_expr.specs.Linear.{LinearForm}
+use Rattle.std.proofs.Common.{◌≡◌, sym, subst, rules}
 use Rattle.check_elim.specs.Light.{IsLight}
-use Rattle.check_elim.specs.Sides.{form_of, difference_of, strict_constant}
+use Rattle.check_elim.specs.Sides.{form_of, difference_of}
 use Rattle.check_elim.proofs.Sides.{light_difference}
 use Rattle.check_elim.proofs.edges.difference.Goals as goal
 

@@ -1,5 +1,4 @@
-use Rattle.std.proofs.Common.{◌≡◌, ◌≤◌, ℕ, pos, negsuc, [], ◌∷◌, sym, ap, ◌∙◌, subst, rules, arith}
-use Rattle.dep_expr.specs.Linear.{LinearForm}
+use Rattle.std.proofs.Common.{◌≡◌, pos, negsuc, [], ◌∷◌, sym, subst, rules}
 use Rattle.check_elim.specs.Light.{IsLight}
 use Rattle.check_elim.proofs.Sides.{light_pointer}
 use Rattle.check_elim.proofs.edges.not_null.Goals as goal

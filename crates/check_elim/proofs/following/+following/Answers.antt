@@ -1,4 +1,4 @@
-use Rattle.std.proofs.Common.{◌≡◌, List, sym, subst, rules, arith}
+use Rattle.std.proofs.Common.{sym, subst, rules, arith}
 use Rattle.checked_tree.specs.declared.statements.CheckedStmt.{CheckedStmt}
 use Rattle.check_elim.specs.Sets.{marking}
 use Rattle.check_elim.specs.Following.{Follows, flows_in, flows_of_all}

@@ -1,5 +1,4 @@
 use Rattle.std.proofs.Common.{◌≡◌, drop}
-use Rattle.checked_tree.specs.Flow.{Flow}
 use Rattle.check_elim.specs.Sets.{marking}
 use Rattle.check_elim.specs.Following.{Follows, flows_of_all}
 use Rattle.check_elim.proofs.following.+following.Given as goal

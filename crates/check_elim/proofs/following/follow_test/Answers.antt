@@ -1,4 +1,4 @@
-use Rattle.std.proofs.Common.{◌≡◌, rules}
+use Rattle.std.proofs.Common.{rules}
 use Rattle.check_elim.specs.Sets.{facts, marking}
 use Rattle.check_elim.proofs.Ruling.{tested_follows}
 use Rattle.check_elim.proofs.following.follow_test.Goals as goal

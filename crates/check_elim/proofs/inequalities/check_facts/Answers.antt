@@ -20,8 +20,9 @@ check_fact-requires-clause-all c = λ i is over.
 
 pub loop-check-preserved : goal.loop-check-preserved
 loop-check-preserved c =
-    let pushed : c.push.new.self.items ≡ c.loop-check.all.items ++ c.in_ok-fact.fact ∷ [] = search rules in
-    ( search rules
-    , subst (λ (l : List CheckFact). (place : ℕ) (d : Check) (x : CheckFact) → slice_get c.as_slice-checks.result.now place ≡ Some d → slice_get l place ≡ Some x → IsCheckFact c.args.f.now c.args.facts.now d x) (sym pushed)
-      (each_more c.args.f.now c.args.facts.now c.as_slice-checks.result.now c.loop-check.all.items c.loop-check.check-index c.check-item.result c.in_ok-fact.fact c.loop-check.invariant.0 c.loop-check-test.true
-      (subst (λ (d : Check). IsCheckFact c.args.f.now c.args.facts.now d c.in_ok-fact.fact) c.check-item.is c.in_ok-fact.ensures) c.loop-check.invariant.1) )
+    let pushed : c.push.new.self.items ≡ c.loop-check.all.items ++ c.in_ok-fact.fact ∷ [] = search rules in (
+      search rules,
+      subst (λ (l : List CheckFact). (place : ℕ) (d : Check) (x : CheckFact) → slice_get c.as_slice-checks.result.now place ≡ Some d → slice_get l place ≡ Some x → IsCheckFact c.args.f.now c.args.facts.now d x) (sym pushed)
+          (each_more c.args.f.now c.args.facts.now c.as_slice-checks.result.now c.loop-check.all.items c.loop-check.check-index c.check-item.result c.in_ok-fact.fact c.loop-check.invariant.0 c.loop-check-test.true
+          (subst (λ (d : Check). IsCheckFact c.args.f.now c.args.facts.now d c.in_ok-fact.fact) c.check-item.is c.in_ok-fact.ensures) c.loop-check.invariant.1),
+    )

@@ -1,4 +1,4 @@
-use Rattle.std.proofs.Common.{◌≡◌, List, All, sym, subst}
+use Rattle.std.proofs.Common.{List, All, sym, subst}
 use Rattle.checked_tree.specs.declared.checks.Check.{Check}
 use Rattle.check_elim.specs.Tables.{IsSmallCond, HasSmallChecks}
 use Rattle.check_elim.proofs.inequalities.facts_of.Goals as goal

@@ -1,4 +1,4 @@
-use Rattle.std.proofs.Common.{◌≡◌, ℕ, ◌<◌, List, Contains, length, sym, ap, subst, rules, arith}
+use Rattle.std.proofs.Common.{length, ap, rules, arith}
 use Rattle.std.proofs.lemmas.List.Elements.{Contains-get_or}
 use Rattle.check_elim.proofs.Masks.{mask_begins}
 use Rattle.check_elim.proofs.inequalities.mask_of.Goals as goal

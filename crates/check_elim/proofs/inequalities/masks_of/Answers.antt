@@ -1,4 +1,4 @@
-use Rattle.std.proofs.Common.{◌≡◌, ℕ, ◌≤◌, subst, rules, arith}
+use Rattle.std.proofs.Common.{arith}
 use Rattle.check_elim.proofs.Masks.{takes_all}
 use Rattle.check_elim.proofs.inequalities.masks_of.Goals as goal
 

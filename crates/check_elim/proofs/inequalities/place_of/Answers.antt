@@ -1,10 +1,9 @@
-use Rattle.std.proofs.Common.{◌≡◌, ℕ, List, Some, None, sym, ap, ◌∙◌, slice_get, rules}
+use Rattle.std.proofs.Common.{sym, ap, ◌∙◌, rules}
 use Rattle.std.specs.Option.{option_copied}
 use Rattle.std.specs.Ordering.{is_lt}
 use Rattle.std.proofs.lemmas.List.Sorted.{IsPartitionPoint-from_clause}
 use Rattle.dep_expr.specs.declared.inequality.Ineq.{Ineq}
 use Rattle.check_elim.specs.Order.{fact_cmp}
-use Rattle.check_elim.specs.Tables.{AreSorted}
 use Rattle.check_elim.proofs.FactLists.{sorted_parted, none_there, other_there, it_is_there}
 use Rattle.check_elim.proofs.inequalities.place_of.Goals as goal
 

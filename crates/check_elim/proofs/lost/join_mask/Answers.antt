@@ -1,6 +1,6 @@
-use Rattle.std.proofs.Common.{◌≡◌, ℕ, List, ap, sym, ◌∙◌, ◌||◌, slice_get}
+use Rattle.std.proofs.Common.{ap, sym, ◌∙◌, ◌||◌}
 use Rattle.check_elim.specs.Bits.{has}
-use Rattle.check_elim.specs.Sets.{mask_at, mask_words}
+use Rattle.check_elim.specs.Sets.{mask_words}
 use Rattle.check_elim.proofs.Lists.{has_nothing, or_none}
 use Rattle.check_elim.proofs.lost.join_mask.Goals as goal
 

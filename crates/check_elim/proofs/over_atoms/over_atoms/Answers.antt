@@ -1,4 +1,4 @@
-use Rattle.std.proofs.Common.{◌≡◌, sym, ◌∙◌}
+use Rattle.std.proofs.Common.{sym, ◌∙◌}
 use Rattle.dep_expr.proofs.Weights.{light_merged}
 use Rattle.check_elim.specs.Light.{IsLight}
 use Rattle.check_elim.proofs.Sides.{told_none, told_some, sum_small}

@@ -1,4 +1,4 @@
-use Rattle.std.proofs.Common.{◌≡◌, ℕ, ℤ, pos, Bool, true, false, List, length, Option, Some, None, sym, ap, ◌∙◌, subst, rules}
+use Rattle.std.proofs.Common.{ℕ, ℤ, pos, List, sym, ap, ◌∙◌, rules}
 use Rattle.checked_tree.specs.Redundant.{terms_over_atoms}
 use Rattle.check_elim.specs.Light.{renamed_form}
 use Rattle.check_elim.proofs.Sides.{renamed_more, renamed_stops}

@@ -1,4 +1,4 @@
-use Rattle.std.proofs.Common.{◌≡◌, false, get_or, refl, rules}
+use Rattle.std.proofs.Common.{false, get_or, refl, rules}
 use Rattle.check_elim.proofs.Ruling.{kept_here}
 use Rattle.check_elim.proofs.removing.is_needed.Goals as goal
 

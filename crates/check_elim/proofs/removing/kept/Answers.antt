@@ -1,4 +1,3 @@
-use Rattle.std.proofs.Common.{◌≡◌}
 use Rattle.check_elim.specs.Sets.{IsTable}
 use Rattle.check_elim.specs.Following.{IsOfInequalities}
 use Rattle.check_elim.proofs.Ruling.{exact_where}

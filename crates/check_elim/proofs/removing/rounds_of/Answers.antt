@@ -1,4 +1,4 @@
-use Rattle.std.proofs.Common.{◌≡◌, [], List, subst}
+use Rattle.std.proofs.Common.{[], List, subst}
 use Rattle.checked_tree.specs.declared.statements.CheckedStmt.{CheckedStmt}
 use Rattle.check_elim.specs.declared.lost.Lost.{Lost}
 use Rattle.check_elim.specs.Sets.{size_in}
@@ -10,4 +10,4 @@ pub returns : goal.returns
 returns c =
     grown_stand (size_in c.args.table.now) (rounds_of c.args.f.now c.args.table.now c.args.f.now.body) c.survey_all.new.rounds.items
     (subst (λ (l : List CheckedStmt). Grows (size_in c.args.table.now) (rounds_of c.args.f.now c.args.table.now l) [] c.survey_all.new.rounds.items) c.as_slice.ensures
-      (subst (λ (l : List Lost). Grows (size_in c.args.table.now) (rounds_of c.args.f.now c.args.table.now c.as_slice.result.now) l c.survey_all.new.rounds.items) c.new-rounds.ensures.items c.in_ok-survey_all.ensures.rounds))
+    (subst (λ (l : List Lost). Grows (size_in c.args.table.now) (rounds_of c.args.f.now c.args.table.now c.as_slice.result.now) l c.survey_all.new.rounds.items) c.new-rounds.ensures.items c.in_ok-survey_all.ensures.rounds))

@@ -1,4 +1,4 @@
-use Rattle.std.proofs.Common.{◌≡◌, ap, ◌∙◌, rules}
+use Rattle.std.proofs.Common.{◌≡◌, rules}
 use Rattle.std.specs.Prelude.{replicate, length, false}
 use Rattle.check_elim.specs.Sets.{marking, IsTable}
 use Rattle.check_elim.specs.Following.{Follows, IsOfClasses, flows_of_all}

@@ -1,4 +1,4 @@
-use Rattle.std.proofs.Common.{◌≡◌, ap, ◌∙◌, rules}
+use Rattle.std.proofs.Common.{◌≡◌, rules}
 use Rattle.std.specs.Prelude.{replicate, length, false}
 use Rattle.check_elim.specs.Direct.{passings, telling}
 use Rattle.check_elim.specs.Sets.{facts, marking, all_lost, size_in, ops_of}

@@ -1,8 +1,6 @@
-use Rattle.std.proofs.Common.{rules, false, ◌≡◌, ℕ, ◌+◌, ◌<◌, [], ◌∷◌, ◌++◌, List, length, drop, slice_set, ◌∙◌, subst, ap, sym, arith}
-use Rattle.check_elim.specs.declared.lost.Lost.{Lost}
-use Rattle.check_elim.specs.Sets.{facts, size_of, size_in}
-use Rattle.check_elim.specs.Rounds.{Grows}
-use Rattle.check_elim.proofs.Looping.{rounds_of, rounds_in, grown_past, grows_nothing}
+use Rattle.std.proofs.Common.{rules, false, drop, ◌∙◌, arith}
+use Rattle.check_elim.specs.Sets.{facts, size_in}
+use Rattle.check_elim.proofs.Looping.{rounds_of, grows_nothing}
 use Rattle.check_elim.proofs.Parts.{if_facts, if_grows, round_facts, while_facts, while_grows, next_facts, next_grows, none_left, grown_place}
 use Rattle.check_elim.proofs.rounds.+surveys.Goals as goal
 
@@ -37,16 +35,17 @@ survey-returns-in_ok-left-in-While-clause-rounds t c =
     (round_facts c.args.f.now c.args.table.now c.in-While.e c.in-While.body (facts c.in_ok-round-in-While.round) (facts c.past_test-in-While.new.lost) (facts c.survey_all-in-While.new.lost) (search rules) (search rules) (search rules))
 
 pub survey_all-loop-statement-preserved : goal.survey_all-loop-statement-preserved
-survey_all-loop-statement-preserved t c =
-    (search rules,
-     next_facts c.args.f.now c.args.table.now c.args.statements.now c.loop-statement.statement-index c.statement-item.result (facts c.loop-statement.lost) (facts c.survey.new.lost) c.loop-statement-test.true c.statement-item.is (search rules)
-     ∙ c.loop-statement.invariant.1,
-     λ z g. c.loop-statement.invariant.2 z
-       (next_grows c.args.f.now c.args.table.now c.args.statements.now c.loop-statement.statement-index c.statement-item.result (size_in c.args.table.now) c.loop-statement.rounds.items c.survey.new.rounds.items z
-         c.loop-statement-test.true c.statement-item.is (search rules) g))
+survey_all-loop-statement-preserved t c = (
+  search rules,
+  next_facts c.args.f.now c.args.table.now c.args.statements.now c.loop-statement.statement-index c.statement-item.result (facts c.loop-statement.lost) (facts c.survey.new.lost) c.loop-statement-test.true c.statement-item.is (search rules)
+      ∙ c.loop-statement.invariant.1,
+  λ z g. c.loop-statement.invariant.2 z
+      (next_grows c.args.f.now c.args.table.now c.args.statements.now c.loop-statement.statement-index c.statement-item.result (size_in c.args.table.now) c.loop-statement.rounds.items c.survey.new.rounds.items z
+      c.loop-statement-test.true c.statement-item.is (search rules) g),
+)
 
 pub survey_all-returns-clause-rounds : goal.survey_all-returns-clause-rounds
 survey_all-returns-clause-rounds t c =
     c.loop-statement.invariant.2 c.loop-statement.rounds.items
     (grows_nothing (size_in c.args.table.now) (rounds_of c.args.f.now c.args.table.now (drop c.loop-statement.statement-index c.args.statements.now)) c.loop-statement.rounds.items
-      (none_left c.args.f.now c.args.table.now c.args.statements.now c.loop-statement.statement-index (omega (arith, c.loop-statement-test.false))))
+    (none_left c.args.f.now c.args.table.now c.args.statements.now c.loop-statement.statement-index (omega (arith, c.loop-statement-test.false))))

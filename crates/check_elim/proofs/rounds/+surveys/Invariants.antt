@@ -10,4 +10,4 @@ invariant-survey_all-loop-statement l =
     (size_of l.lost ≡ size_of l.fn.lost)
     × (through (passings (ops_of l.f l.table) l.f.slots (drop l.statement-index l.statements)) (facts l.lost) ≡ through (passings (ops_of l.f l.table) l.f.slots l.statements) (facts l.fn.lost))
     × ((z : List Lost) → Grows (size_in l.table) (backs (passings (ops_of l.f l.table) l.f.slots (drop l.statement-index l.statements))) l.rounds.items z
-      → Grows (size_in l.table) (backs (passings (ops_of l.f l.table) l.f.slots l.statements)) l.fn.rounds.items z)
+    → Grows (size_in l.table) (backs (passings (ops_of l.f l.table) l.f.slots l.statements)) l.fn.rounds.items z)

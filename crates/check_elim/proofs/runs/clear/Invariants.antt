@@ -1,4 +1,4 @@
-use Rattle.std.proofs.Common.{◌≡◌, ℕ, Bool, ◌&&◌, nat_lt, if◌then◌else◌, length, false, slice_get}
+use Rattle.std.proofs.Common.{◌≡◌, ℕ, ◌&&◌, nat_lt, if◌then◌else◌, length, false, slice_get}
 use Rattle.check_elim.specs.Bits.{has}
 use Rattle.check_elim.specs.Sets.{gives_in}
 use Rattle.check_elim.proofs.runs.clear.Given as goal

@@ -1,4 +1,4 @@
-use Rattle.std.proofs.Common.{◌-◌, ◌≡◌, ◌⊎◌, ℕ, Bool, ◌≤◌, ◌&&◌, nat_lt, leb, if◌then◌else◌, length, false}
+use Rattle.std.proofs.Common.{◌-◌, ◌≡◌, ◌⊎◌, ℕ, ◌≤◌, if◌then◌else◌, length, false}
 use Rattle.check_elim.specs.Bits.{has}
 use Rattle.check_elim.proofs.Clearing.{in_run}
 use Rattle.check_elim.proofs.runs.clear_run.Given as goal

@@ -1,5 +1,3 @@
-use Rattle.std.proofs.Common.{◌≡◌, Bool, true, false, sym}
-use Rattle.check_elim.specs.Facts.{implies}
 use Rattle.check_elim.proofs.Implying.{implies_is}
 use Rattle.check_elim.proofs.runs.is_implied.Goals as goal
 

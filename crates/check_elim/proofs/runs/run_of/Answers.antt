@@ -1,4 +1,4 @@
-use Rattle.std.proofs.Common.{◌≡◌, ℕ, Bool, true, false, not, List, length, subst, sym, rules, leb, nat_lt, ◌&&◌, slice_get, ◌≤◌, arith}
+use Rattle.std.proofs.Common.{◌≡◌, ℕ, not, List, subst, sym, rules, leb, nat_lt, ◌&&◌, slice_get}
 use Rattle.std.specs.Ordering.{is_lt}
 use Rattle.std.proofs.lemmas.List.Sorted.{IsPartitionPoint-from_clause}
 use Rattle.dep_expr.specs.declared.inequality.Ineq.{Ineq}

@@ -1,7 +1,6 @@
-use Rattle.std.proofs.Common.{◌≡◌, ℕ, Option, Some, None, Bool, List, ap, ◌∙◌, sym, subst, length, false, ◌||◌, ◌-◌, nat_lt, if◌then◌else◌, slice_set, get_or}
+use Rattle.std.proofs.Common.{◌≡◌, ℕ, Option, Bool, List, ap, ◌∙◌, sym, subst, length, false, ◌||◌, ◌-◌, nat_lt, if◌then◌else◌, slice_set, get_or}
 use Rattle.std.proofs.lemmas.List.{with_items_is}
-use Rattle.check_elim.specs.Sets.{Marking, marking, mark_one, mark_own, facts, own_fact}
-use Rattle.check_elim.specs.Facts.{is_lost}
+use Rattle.check_elim.specs.Sets.{marking, mark_one, mark_own, facts}
 use Rattle.check_elim.proofs.Lists.{marked_at, marks}
 use Rattle.check_elim.proofs.lost.Kept.mark.Goals as goal
 

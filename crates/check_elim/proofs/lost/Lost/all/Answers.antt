@@ -1,4 +1,3 @@
-use Rattle.std.proofs.Common.{◌≡◌}
 use Rattle.check_elim.specs.Sets.{facts}
 use Rattle.check_elim.proofs.Lists.{all_are_lost}
 use Rattle.check_elim.proofs.lost.Lost.all.Goals as goal

@@ -1,4 +1,3 @@
-use Rattle.std.proofs.Common.{◌≡◌}
 use Rattle.check_elim.specs.Sets.{facts}
 use Rattle.check_elim.proofs.Lists.{assigned_by_classes}
 use Rattle.check_elim.proofs.lost.Lost.assign.Goals as goal

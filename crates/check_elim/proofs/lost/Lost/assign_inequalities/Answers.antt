@@ -19,6 +19,6 @@ returns-clause-facts c =
     let old : List ℕ = c.args.self.now.words.items in
     let new : List ℕ = c.join_masks.new.words in
     let members = subst (λ (l : List ℕ). (j : ℕ) → has new j ≡ (has l j || list_any (λ slot. has (mask_at c.args.table.now.masks.items slot) j) c.args.slots.now)) c.as_mut_slice.ensures.value
-        (subst (λ (m : List (Vec ℕ)). (j : ℕ) → has new j ≡ (has c.as_mut_slice.result.now j || list_any (λ slot. has (mask_at m slot) j) c.args.slots.now)) c.as_slice.ensures.value c.join_masks.ensures.members) in
+    (subst (λ (m : List (Vec ℕ)). (j : ℕ) → has new j ≡ (has c.as_mut_slice.result.now j || list_any (λ slot. has (mask_at m slot) j) c.args.slots.now)) c.as_slice.ensures.value c.join_masks.ensures.members) in
     ap (ways c.args.self.now.reached) (with_items_is c.args.self.now.words new (c.join_masks.ensures.length ∙ c.as_mut_slice.ensures.len))
     ∙ all_taken c.args.f.now c.args.table.now c.args.slots.now c.args.self.now.reached old new c.requires.table members

@@ -1,4 +1,4 @@
-use Rattle.std.proofs.Common.{◌≡◌, ℕ, Bool, false, List, ap, sym, ◌∙◌, subst, if◌then◌else◌, length, ◌<◌, ◌*◌, ◌==◌}
+use Rattle.std.proofs.Common.{◌≡◌, ℕ, false, List, ap, sym, ◌∙◌, subst, if◌then◌else◌, ◌==◌}
 use Rattle.std.proofs.lemmas.List.{with_items_is}
 use Rattle.check_elim.specs.Bits.{has}
 use Rattle.check_elim.specs.Sets.{facts, ways}

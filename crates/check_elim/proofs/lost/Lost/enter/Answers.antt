@@ -1,5 +1,5 @@
-use Rattle.std.proofs.Common.{◌≡◌, ap, sym, ◌∙◌, subst, true}
-use Rattle.check_elim.specs.Sets.{facts, ways, either_all, guard_all}
+use Rattle.std.proofs.Common.{ap, sym, ◌∙◌}
+use Rattle.check_elim.specs.Sets.{facts, either_all}
 use Rattle.check_elim.proofs.Lists.{guarded}
 use Rattle.check_elim.proofs.lost.Lost.enter.Goals as goal
 

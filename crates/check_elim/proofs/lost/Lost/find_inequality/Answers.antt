@@ -1,4 +1,4 @@
-use Rattle.std.proofs.Common.{◌≡◌, ℕ, List, Option, Some, None, refl, ap, sym, ◌∙◌, false}
+use Rattle.std.proofs.Common.{refl, ap, sym, ◌∙◌}
 use Rattle.checked_tree.specs.Flow.{Finds}
 use Rattle.checked_tree.specs.Redundant.{event_inequality}
 use Rattle.check_elim.specs.Sets.{facts}
@@ -18,4 +18,4 @@ pub returns-clause-facts : goal.returns-clause-facts
 returns-clause-facts c =
     c.give.ensures.facts
     ∙ told_all c.args.f.now c.args.table.now.facts.items (Finds c.args.fact) c.in-Some-2.strong (facts c.args.self.now)
-      (ap (λ x. event_inequality c.args.f.now (Finds x)) c.in-Some.is ∙ (sym c.in_ok-over_atoms-in-Some.ensures ∙ c.in-Some-2.is)) (λ slots. refl)
+    (ap (λ x. event_inequality c.args.f.now (Finds x)) c.in-Some.is ∙ (sym c.in_ok-over_atoms-in-Some.ensures ∙ c.in-Some-2.is)) (λ slots. refl)

@@ -1,4 +1,4 @@
-use Rattle.std.proofs.Common.{◌≡◌, ℕ, List, true, ap, ◌∙◌}
+use Rattle.std.proofs.Common.{ℕ, List, true, ap, ◌∙◌}
 use Rattle.check_elim.specs.Bits.{has}
 use Rattle.check_elim.specs.Sets.{way_of, facts, all_sure}
 use Rattle.check_elim.proofs.Lists.{has_none}

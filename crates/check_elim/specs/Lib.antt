@@ -1,0 +1,16 @@
+pub mod Ways
+pub mod Facts
+pub mod Equal
+pub mod Direct
+pub mod One
+pub mod Bits
+pub mod Order
+pub mod Runs
+pub mod Sets
+pub mod Rounds
+pub mod Redundancy
+pub mod Sides
+pub mod Light
+pub mod Tables
+pub mod Following
+pub mod Marks

@@ -46,6 +46,7 @@ acting lines = record {
   saying = λ x quiet. record { to = λ s a. a };
   listing = λ xs quiet. record { to = λ s a. a };
   updating = λ owner u. record { to = λ s a. a };
+  leaving = λ owner. record { to = λ s a. a };
   tasks = λ change same. record { to = λ s a. a };
   memories = λ change same. record { to = λ s a. a };
   devices = λ change. record { to = λ s a. a };

@@ -67,6 +67,7 @@ pub record Acting (I : WorldState → Type 0) : Type 0 where
   pub saying : (x : Item) → is_failure x ≡ false → Leads I I (say x)
   pub listing : (xs : List Item) → list_any is_failure xs ≡ false → Leads I I (says xs)
   pub updating : (owner : ℕ) (u : Update) → Leads I I (updates owner u)
+  pub leaving : (owner : ℕ) → Leads I I (leaves_out owner)
   pub tasks : (change : Tasks → Tasks) → ((t : Tasks) → length (change t) ≡ length t) → Leads I I (on_tasks change)
   pub memories : (change : List (List ℕ) → List (List ℕ)) → ((m : List (List ℕ)) → length (change m) ≡ length m) →
       Leads I I (on_memories change)
@@ -294,8 +295,8 @@ keep-init K plan driver task (Some f) = K.tasks (begun plan task driver f []) (�
 keep-loads : {I : WorldState → Type 0} → Acting I → (plan : Plan) (driver task : ℕ) → Leads I I (loads plan driver task)
 unfolding loads
 keep-loads K plan driver task =
-    leads-then (K.memories _ (λ ms. length-with_owner ms driver _))
-    (leads-then (keep-grants K driver (unit_of plan driver).image) (keep-init K plan driver task (init_of (unit_of plan driver))))
+    leads-then (K.leaving driver) (leads-then (K.memories _ (λ ms. length-with_owner ms driver _))
+    (leads-then (keep-grants K driver (unit_of plan driver).image) (keep-init K plan driver task (init_of (unit_of plan driver)))))
 
 keep-load : {I : WorldState → Type 0} → Happening I → (driver task restarts : ℕ) → Leads I I (load driver task restarts)
 unfolding load

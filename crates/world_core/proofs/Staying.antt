@@ -47,6 +47,16 @@ acting drivers bound = record {
           a.left;
     };
   };
+  leaving = λ owner. record {
+    to = λ s a. record {
+      tasks = a.tasks;
+      memories = a.memories;
+      states = a.states;
+      lines = a.lines;
+      left =
+          a.left;
+    };
+  };
   tasks = λ change same. record {
     to = λ s a. record {
       tasks = same s.tasks ∙ a.tasks;

@@ -55,6 +55,7 @@ acting = record {
   saying = λ x quiet. record { to = λ s a. a ∙ sym (quiet-added s.said (x ∷ []) (one-quiet x quiet)) };
   listing = λ xs quiet. record { to = λ s a. a ∙ sym (quiet-added s.said xs quiet) };
   updating = λ owner u. record { to = λ s a. a };
+  leaving = λ owner. record { to = λ s a. a };
   tasks = λ change same. record { to = λ s a. a };
   memories = λ change same. record { to = λ s a. a };
   devices = λ change. record { to = λ s a. a };

@@ -78,6 +78,7 @@ acting line start = record {
   saying = λ x quiet. saying line start x;
   listing = λ xs quiet. listing line start xs;
   updating = λ owner u. record { to = λ s a. record { since = a.since; is = a.is; fate = a.fate } };
+  leaving = λ owner. record { to = λ s a. record { since = a.since; is = a.is; fate = a.fate } };
   tasks = λ change same. record { to = λ s a. record { since = a.since; is = a.is; fate = a.fate } };
   memories = λ change same. record { to = λ s a. record { since = a.since; is = a.is; fate = a.fate } };
   devices = λ change. record { to = λ s a. record { since = a.since; is = a.is; fate = a.fate } };

@@ -68,7 +68,7 @@ image_granted share driver (b ∷ bs) h = image_granted share driver bs (updated
 pub record IsLoadState (plan : Plan) (driver task : ℕ) (before after : WorldState) : Type 0 where
   pub memory : 1 ≤ driver → driver ≤ length before.memories → bytes_of after.memories driver ≡ image_memory (unit_of plan driver)
   pub other_memories : (other : ℕ) → other ≢ driver → bytes_of after.memories other ≡ bytes_of before.memories other
-  pub grants : after.history ≡ image_granted before.plan.share driver (unit_of plan driver).image before.history
+  pub grants : after.history ≡ image_granted before.plan.share driver (unit_of plan driver).image (without_driver driver before.history)
   pub init : (f : ℕ) → init_of (unit_of plan driver) ≡ Some f → task < length before.tasks →
       activity_of after.tasks task ≡ running driver (started (unit_of plan driver) f [])
   pub other_tasks : (other : ℕ) → other ≢ task → activity_of after.tasks other ≡ activity_of before.tasks other

@@ -26,7 +26,7 @@ use Rattle.world_core.specs.declared.run_state.Standing.TheVariants.{Absent, Loa
 use Rattle.world_core.specs.declared.run_state.DriverState.{DriverState}
 use Rattle.world_core.specs.declared.run_state.RunState.{RunState}
 use Rattle.world_core.specs.WorldState.{Plan, unit_of, driver_of, with_driver, empty_arena, with_memory, is_live, has_activity, not_loaded}
-use Rattle.world_core.specs.Script.{Script, nothing, say, updates, on_run, on_tasks, on_memories, by_plan, by_run, by_tasks, ◌>>◌}
+use Rattle.world_core.specs.Script.{Script, nothing, say, updates, leaves_out, on_run, on_tasks, on_memories, by_plan, by_run, by_tasks, ◌>>◌}
 use Rattle.world_core.specs.Failing.{takes_back}
 use Rattle.world_core.specs.Handling.{begun}
 
@@ -75,10 +75,12 @@ abbrev pub begins_init : Plan → ℕ → ℕ → Option ℕ → Script
 begins_init plan driver task None = nothing
 begins_init plan driver task (Some f) = on_tasks (begun plan task driver f [])
 
--- The driver is loaded: its memory is that of the load state, each image block is granted, in order, and its `init` starts on the task.
+-- The driver is loaded: it has no entry of before, its memory is that of the load state, each image block is granted, in order, and its
+-- `init` starts on the task.
 unfoldable pub loads : Plan → ℕ → ℕ → Script
 loads plan driver task =
-    on_memories (with_memory driver (image_memory (unit_of plan driver)))
+    leaves_out driver
+    >> on_memories (with_memory driver (image_memory (unit_of plan driver)))
     >> grants_image driver (unit_of plan driver).image
     >> begins_init plan driver task (init_of (unit_of plan driver))
 

@@ -8,8 +8,8 @@ pub fn failures_are_undone()
     ensures { FailuresAreUndone }
 {}
 
-/// A load and a restart begin from the load state: the memory is that of the image and holds nothing of before, each block of the image is
-/// granted, in order, and `init` stands at its beginning.
+/// A load and a restart begin from the load state: the memory is that of the image and holds nothing of before, the history has of the driver
+/// the grants of the image's blocks alone, in order, and `init` stands at its beginning.
 pub fn loads_begin_from_the_image()
     ensures { LoadsBeginFromTheImage }
 {}

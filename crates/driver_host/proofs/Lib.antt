@@ -1,0 +1,5 @@
+pub mod Drivers
+pub mod Hosting
+pub mod Told
+pub mod Grounds
+pub mod Waiting

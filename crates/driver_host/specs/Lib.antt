@@ -1,0 +1,4 @@
+pub mod Granting
+pub mod Hosting
+pub mod Printing
+pub mod Grounds

@@ -1,0 +1,14 @@
+pub mod Standing
+pub mod Stepped
+pub mod Going
+pub mod Calm
+pub mod Ready
+pub mod Kept
+pub mod Serving
+pub mod Begun
+pub mod Asking
+pub mod Orders
+pub mod Images
+pub mod Happening
+pub mod Runs
+pub mod WholeRuns

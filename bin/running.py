@@ -1,7 +1,6 @@
 """What the scripts that try the repository's own texts share: the program that is tried, and how an answer differs from the one that is kept."""
 import difflib
 import os
-import re
 import subprocess
 import sys
 
@@ -22,17 +21,6 @@ def answer(program, words, folder):
     """What the launcher writes and its status, with the program that is tried."""
     told = subprocess.run([LAUNCHER, *words], cwd=folder, capture_output=True, env={**os.environ, "SAFEDRIVE_PROGRAM": program})
     return told.stdout.decode("latin-1"), told.stderr.decode("latin-1"), told.returncode
-
-
-def waits(out):
-    """Whether a run was refused only since its scenario is of a form that no run serves yet; no line of a scenario has the number 0."""
-    return out == "scenario 0\n"
-
-
-def up_to_failure(lines):
-    """Of the lines of a run what is written today: those up to the first failure, and the last. What a failed driver had is not taken back yet."""
-    found = re.search(r"(?:.*\n)*?d[1-4] t[0-8] failed .*\n", lines)
-    return found[0] + lines[found.end() :].splitlines(True)[-1] if found else lines
 
 
 def scenario_of(driver):
@@ -56,7 +44,7 @@ class Tally:
     """Counts what was tried, and tells what failed as it comes."""
 
     def __init__(self):
-        self.passed, self.failed, self.waiting = 0, 0, 0
+        self.passed, self.failed = 0, 0
 
     def note(self, name, wrong):
         """One thing was tried; `wrong` says what is wrong with it, or is empty."""
@@ -67,6 +55,5 @@ class Tally:
             self.passed += 1
 
     def end(self, of_what):
-        waiting = f", {self.waiting} wait for runs of whole drivers" if self.waiting else ""
-        print(f"{of_what}: {self.passed} passed, {self.failed} failed{waiting}")
+        print(f"{of_what}: {self.passed} passed, {self.failed} failed")
         sys.exit(1 if self.failed else 0)

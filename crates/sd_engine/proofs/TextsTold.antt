@@ -22,13 +22,11 @@ not-memory-either : (r : DriverRefusal) (w : Reason) → Some w ≡ reason_of r 
 not-memory-either r w told same = let inner : r ≡ refusal.Memory = cc same in not-memory r w told inner
 
 -- a text that is refused, and one that is accepted
-pub refused-told : (t : List ℕ) (r : DriverRefusal) (w : Reason) → Some w ≡ reason_of r → (refused r ≢ refused refusal.Memory → front.Verdict t (front.unit_in (refused r)))
+pub refused-told : (t : List ℕ) (r : DriverRefusal) (w : Reason) → Some w ≡ reason_of r
+    → (refused r ≢ refused refusal.Memory → front.Verdict t (front.unit_in (refused r)))
     → IsRefusedAt t w.line w.cause
 refused-told t r w told h = record { refusal = r; verdict = h (not-memory-either r w told); told = sym told }
 
-pub accepted-told : (t : List ℕ) (driver : Driver) → (Ok driver ≢ Err refusal.Memory → front.Verdict t (front.unit_in (Ok driver))) → IsAccepted t
+pub accepted-told : (t : List ℕ) (driver : Driver) → (Ok driver ≢ Err refusal.Memory → front.Verdict t (front.unit_in (Ok driver)))
+    → IsAccepted t
 accepted-told t driver h = (driver.unit, h (λ same. cc same))
-
--- the verdict of an accepted text
-pub verdict-told : (t : List ℕ) (driver : Driver) → (Ok driver ≢ Err refusal.Memory → front.Verdict t (front.unit_in (Ok driver))) → front.Verdict t (Ok driver.unit)
-verdict-told t driver h = h (λ same. cc same)

@@ -1,9 +1,3 @@
-pub mod Command
-pub mod Meaning
-pub mod InitRun
-pub mod Rigs
-pub mod ThinRun
-pub mod Marks
-pub mod ThinScenario
 pub mod Serve
+pub mod Running
 pub mod Statuses

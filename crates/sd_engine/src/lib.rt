@@ -2,19 +2,12 @@
 //! sink, and the status comes back.
 #![tactic(auto)]
 
-mod blocks;
 mod check;
-mod command;
-mod items;
+mod front;
 mod printing;
-mod rig;
-mod stage;
+mod run;
 mod status;
-mod stepped;
-mod tasks;
 mod texts;
-mod thin_run;
-mod thin_scenario;
 mod top_call;
 
 pub use status::Status;

@@ -2,8 +2,9 @@
 ghost use Rattle.std.specs.Prelude.{◌≡◌, ◌≢◌, OnOk, Err, true, map};
 ghost use Rattle.std.specs.String.{string_bytes};
 ghost use Rattle.sd_outside.specs.Counts.{Rose, RoseBeyond};
-ghost use Rattle.sd_engine.specs.Command.{all_differ};
-ghost use Rattle.sd_engine.specs.Serve.{AreTextsBehind, IsFirstLong, most_bytes};
+ghost use Rattle.command_words.specs.Command.{all_differ};
+ghost use Rattle.sd_engine.specs.Running.{AreTextsBehind};
+ghost use Rattle.sd_engine.specs.Serve.{IsFirstLong, most_bytes};
 
 use sd_outside::{Shelf, TextFault, read_text};
 use std::alloc::Global;
@@ -18,7 +19,8 @@ pub fn read_texts<S: Shelf>(
     texts: &mut Vec<Vec<u8>>,
 ) -> Result<(), TextFault>
     requires { all_differ (map string_bytes files.now) ≡ true }
-    ensures read { OnOk result (AreTextsBehind (S.left shelf.old) (map string_bytes files.now) (map (λ text. text.items) texts.old.items) (map (λ text. text.items) texts.new.items)) }
+    ensures read { OnOk result (AreTextsBehind (S.left shelf.old) (map string_bytes files.now) (map (λ text. text.items) texts.old.items)
+        (map (λ text. text.items) texts.new.items)) }
     ensures too_long { result ≡ Err TextFault.TooLong → IsFirstLong (S.left shelf.old) (map string_bytes files.now) }
     ensures too_much { result ≡ Err TextFault.TooLong → RoseBeyond most_bytes (S.given shelf.old) (S.given shelf.new) }
     ensures read_fault { result ≡ Err TextFault.ReadFault → Rose (S.faults shelf.old) (S.faults shelf.new) }

@@ -1,5 +1,5 @@
 -- Of a line that was cut a front part was written, and nothing was kept before it.
-use Rattle.sd_engine.proofs.Finishing.{cut-line, on-error}
+use Rattle.sd_engine.proofs.Cutting.{cut-line, on-error}
 use Rattle.sd_engine.proofs.printing.write_item.Goals as goal
 
 pub returns-in_err-put-clause-err : goal.returns-in_err-put-clause-err

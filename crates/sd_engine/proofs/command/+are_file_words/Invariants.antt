@@ -1,5 +1,0 @@
-use Rattle.std.proofs.Common.{length}
-use Rattle.sd_engine.proofs.command.+are_file_words.Given as goal
-
-abbrev pub decreases-are_file_words : goal.decreases-are_file_words
-decreases-are_file_words l = length l.words.now

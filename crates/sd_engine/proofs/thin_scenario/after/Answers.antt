@@ -1,7 +1,0 @@
--- What is left after a prefix.
-use Rattle.std.proofs.lemmas.Slice.Eq.{strip_prefix_is}
-use Rattle.std.proofs.lemmas.Bool.Decides.{Decides-eqb}
-use Rattle.sd_engine.proofs.thin_scenario.after.Goals as goal
-
-pub returns : goal.returns
-returns c = strip_prefix_is Decides-eqb _ _ _ c.strip_prefix-rest.ensures.cases

@@ -55,7 +55,10 @@ run s d|load d1 1~finish 1|int init(void) { char *nullterm s; int c; s = \"ab\";
 run s d|load d1 1~finish 1|struct s { int len; int *count(len) buf; };~struct s g;~int init(void) {~  int *q;~  q = kalloc(int, 8);~  g.len = 8;~  g.buf = q;~  g.len = 4;~  printd(g.len);~  g.buf = 0;~  g.len = 8;~  g.buf = q;~  g.len = 9;~  return 0;~}|0|DriverFailed|d1 loaded~d1 t1 print 4~d1 t1 failed Change 13~d1 undo block 32~d1 undo block 16~tables~clock 0~end 9~
 // a string may be shortened, and its end not written over
 run s d|load d1 1~finish 1|int init(void) {~  char *nullterm s;~  s = \"ab\";~  *s = 'x';~  prints(s);~  s = s + 1;~  s = s + 1;~  *s = 0;~  printd(1);~  *s = 'y';~  return 0;~}|0|DriverFailed|d1 loaded~d1 t1 text \"xb\"~d1 t1 print 1~d1 t1 failed Term 10~d1 undo block 16~tables~clock 0~end 8~
-// a tag changes over a union that is zero alone
+";
+
+/// Runs of one driver that fails, or that the kernel answers.
+const FAILURES: &str = "// a tag changes over a union that is zero alone
 run s d|load d1 1~finish 1|struct v { int t; union { int n when(t == 1); int *safe p when(t == 2); } u; };~struct v g;~int init(void) {~  g.t = 1;~  g.u.n = 5;~  zero(g.u);~  g.t = 2;~  g.t = 1;~  g.u.n = 6;~  g.t = 2;~  return 0;~}|0|DriverFailed|d1 loaded~d1 t1 failed Change 10~d1 undo block 16~tables~clock 0~end 7~
 run s d|load d1 1~finish 1|struct v { int t; union { int n when(t == 1); int m when(t == 2); } u; };~struct v g;~int init(void) { g.t = 1;~  g.u.m = 5; return 0; }|0|DriverFailed|d1 loaded~d1 t1 failed Tag 4~d1 undo block 16~tables~clock 0~end 2~
 // nothing wraps in a bound
@@ -78,7 +81,10 @@ run s d|load d1 1~finish 1|int init(void) { mask(); return 0; }|0|DriverFailed|d
 run s d|load d1 1~finish 1|void h(int l) { return; }~int init(void) { int r; r = request_line(5, h); printd(r); r = request_line(5, h); printd(r); r = set_param(7, 9); r = get_param(7); printd(r); r = now(); printd(r); r = request_ports(8, 1); port_out(8, 65); return r; }|0|Done|d1 loaded~d1 t1 print 0~d1 t1 print -16~d1 t1 print 9~d1 t1 print 0~d1 t1 out 8 65~d1 t1 done 0~end 12~
 // behind a failure the run goes on
 run s d|load d1 1~finish 1~load d1 1~finish 1|int init(void) { int z; return 1 / z; }|0|DriverFailed|d1 loaded~d1 t1 failed Div 1~tables~clock 0~d1 load refused: failed~t1 idle~end 1~
-// a check refuses a text by line and cause
+";
+
+/// Checks, scenarios and reads, a call a row.
+const REFUSALS: &str = "// a check refuses a text by line and cause
 check d||int f(void) { return 1 @ 2; }|0|Refused|refused 1 1 word~
 check d||~int a234567890123456789012345678901234567890123456789012345678901234;|0|Refused|refused 1 2 limit~
 check d||int f(void) { return 1 }|0|Refused|refused 1 1 item~
@@ -263,6 +269,18 @@ fn calls_answer_and_write_as_they_should(rt: HostRuntime) -> Result<(), Fail> {
 }
 
 #[test]
+fn failures_are_told(rt: HostRuntime) -> Result<(), Fail> {
+    assert_eq!(rt; first_wrong(rt.alloc(), FAILURES)?, "");
+    Ok(())
+}
+
+#[test]
+fn refusals_are_told(rt: HostRuntime) -> Result<(), Fail> {
+    assert_eq!(rt; first_wrong(rt.alloc(), REFUSALS)?, "");
+    Ok(())
+}
+
+#[test]
 fn runs_print_what_they_should(rt: HostRuntime) -> Result<(), Fail> {
     assert_eq!(rt; first_wrong(rt.alloc(), RUNS)?, "");
     assert_eq!(rt; first_wrong(rt.alloc(), RING)?, "");
@@ -290,13 +308,13 @@ fn outcome(status: Status, written: &[u8], whole: &[u8]) -> Outcome {
 }
 
 /// How the call of a row comes out, of which the read and the write with these numbers fail (none where a number is 0). A read hands out 50
-/// bytes at most, a write takes 7.
+/// bytes at most, a write takes 30.
 fn with_faults(alloc: Global, row: &str, read: u64, write: u64) -> Result<Outcome, AllocError> {
     let mut shelf = shelf_of(alloc, row, read, 50)?;
     let words = words_of(alloc, field(row, 0))?;
     let whole = lines_of(alloc, row, 5);
     let fail = Vec::from_slice(alloc, &[write])?;
-    let mut sink = MemSink::new(alloc, 2_000, fail, 7)?;
+    let mut sink = MemSink::new(alloc, 2_000, fail, 30)?;
     let status = serve(alloc, words.as_slice(), &mut shelf, &mut sink);
     Ok(outcome(status, sink.bytes(), whole.as_bytes()))
 }
@@ -333,7 +351,7 @@ fn each_read_fails_in_turn(rt: HostRuntime) -> Result<(), Fail> {
 
 #[test]
 fn each_write_fails_in_turn(rt: HostRuntime) -> Result<(), Fail> {
-    assert!(rt; writes_in_turn(rt.alloc(), RING)? > 50);
+    assert!(rt; writes_in_turn(rt.alloc(), RING)? > 10);
     Ok(())
 }
 
@@ -383,6 +401,11 @@ fn a_run_ends_at_the_most_steps(rt: HostRuntime) -> Result<(), Fail> {
             "d1 loaded\nd1 t1 done 0\nt1 idle\nend 100000\n"
         )?
     );
+    Ok(())
+}
+
+#[test]
+fn a_run_of_one_step_more_is_stopped(rt: HostRuntime) -> Result<(), Fail> {
     assert!(rt; steps_give(rt.alloc(), 100_000, "d1 loaded\nbound 100000\n")?);
     Ok(())
 }

@@ -298,7 +298,7 @@ enum Outcome {
 }
 
 /// How a call came out whose output would be `whole`.
-fn outcome(status: Status, written: &[u8], whole: &[u8]) -> Outcome {
+fn outcome_of(status: Status, written: &[u8], whole: &[u8]) -> Outcome {
     match status {
         Status::DriverFailed if written == whole => Outcome::Whole,
         Status::WriteFault if whole.starts_with(written) => Outcome::Front,
@@ -316,7 +316,7 @@ fn with_faults(alloc: Global, row: &str, read: u64, write: u64) -> Result<Outcom
     let fail = Vec::from_slice(alloc, &[write])?;
     let mut sink = MemSink::new(alloc, 2_000, fail, 30)?;
     let status = serve(alloc, words.as_slice(), &mut shelf, &mut sink);
-    Ok(outcome(status, sink.bytes(), whole.as_bytes()))
+    Ok(outcome_of(status, sink.bytes(), whole.as_bytes()))
 }
 
 /// The number of the first read that no longer fails, as the call makes fewer; 0 where a call before comes out otherwise than it should.

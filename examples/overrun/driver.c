@@ -8,9 +8,9 @@ struct ring {
 struct ring input;
 
 /* A timer that sets itself. */
-void tick(int count) {
+void tick(int times) {
   int e;
-  e = set_timer(1, 10, tick, count + 1);
+  e = set_timer(1, 10, tick, times + 1);
   if (e < 0) printd(e);
 }
 

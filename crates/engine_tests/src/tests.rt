@@ -1,6 +1,6 @@
 //! What no clause says: that the call succeeds, on worked runs and on tables of words, texts and scenarios, with each read and each write
 //! failing in turn.
-ghost use Rattle.std.specs.Prelude.{IsTrue, IfOk, map};
+ghost use Rattle.std.specs.Prelude.{◌≤◌, IsTrue, IfOk, map};
 ghost use Rattle.sd_outside.specs.Texts.{text_of, names_differ};
 
 use sd_engine::{Status, serve};
@@ -224,7 +224,9 @@ fn gives(
 }
 
 /// The texts of a row on a shelf that hands out so many bytes a call, of which the read with this number fails.
-fn shelf_of(alloc: Global, row: &str, failing: u64, most: usize) -> Result<MemShelf, AllocError> {
+fn shelf_of(alloc: Global, row: &str, failing: u64, most: usize) -> Result<MemShelf, AllocError>
+    requires { 1 ≤ most }
+{
     let scenario = lines_of(alloc, row, 1);
     let driver = lines_of(alloc, row, 2);
     let second = lines_of(alloc, row, 6);
